@@ -1,0 +1,9 @@
+pub mod Names
+pub mod Entries
+pub mod Flaws
+pub mod Refusals
+pub mod Readers
+pub mod Records
+pub mod Outcomes
+pub mod Sheets
+pub mod Steps
