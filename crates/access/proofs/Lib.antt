@@ -1,0 +1,9 @@
+pub mod Facts
+pub mod Bits
+pub mod Masks
+pub mod RightsSets
+pub mod Chaining
+pub mod model
+pub mod history
+pub mod rules
+pub mod worked

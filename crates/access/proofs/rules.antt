@@ -1,0 +1,11 @@
+pub mod Membership
+pub mod Judging
+pub mod Legality
+pub mod Following
+pub mod Sameness
+pub mod Matching
+pub mod Tracked
+pub mod Outcomes
+pub mod Told
+pub mod Showing
+pub mod Revocations

@@ -1,0 +1,5 @@
+pub mod Calls
+pub mod Names
+pub mod Accounts
+pub mod Standing
+pub mod Runs

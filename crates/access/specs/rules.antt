@@ -1,0 +1,17 @@
+pub mod Sets
+pub mod Views
+pub mod Needs
+pub mod Checks
+pub mod Filled
+pub mod Filling
+pub mod Questions
+pub mod Serving
+pub mod Due
+pub mod Changes
+pub mod Telling
+pub mod Agreement
+pub mod Revoking
+pub mod Sequences
+pub mod Tracking
+pub mod Worked
+pub mod Examples
