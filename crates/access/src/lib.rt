@@ -1,4 +1,6 @@
 // Rights and capabilities, and what is true of the access model.
+#![tactic(auto)]
+
 pub mod capability;
 mod laws;
 pub mod right;

@@ -1,10 +1,10 @@
 -- When a board is full.
-use Rattle.std.proofs.Common.{◌≡◌, ℕ, zero, suc, ◌+◌, ◌*◌, ◌/◌, ◌%◌, ◌^◌, ◌<◌, true, false, not, List, get_or, ap, ◌∙◌, inl, inr, ⊎_elim, arith}
+use Rattle.std.proofs.Common.{◌≡◌, ℕ, zero, suc, ◌+◌, ◌*◌, ◌/◌, ◌%◌, ◌^◌, ◌<◌, true, false, List, get_or, ap, ◌∙◌, inl, inr, ⊎_elim, arith}
 use Rattle.std.proofs.lemmas.Nat.{div-add-mod', div_below, mod_below, mul-add-lt}
 use Rattle.std.proofs.lemmas.Bool.{and_from, and_right, cases_Bool}
 use Rattle.std.proofs.lemmas.Bool.Decides.{nat_tests}
 use Rattle.access.specs.Rights.{bit}
-use Rattle.access.specs.Rules.Sets.{none, added, members, Takes}
+use Rattle.access.specs.Rules.Sets.{added, members, HasRoom}
 use Rattle.access.proofs.Bits.{bit_largest, missing_bit}
 use Rattle.access.proofs.Rules.Counting.{Counts, members_added, members_all, members_le}
 use Rattle.board.specs.Boards.{marked}
@@ -44,10 +44,10 @@ no_room size words ones = members_all size (marked size words) stands
 
 -- a board is full only where it has every triple in range
 pub room_for : (size : ℕ) (words : List ℕ) (h t r : ℕ) → InRange size h t r
-    → Takes size (size * size * 32) (marked size words) h t r
+    → HasRoom size (size * size * 32) (marked size words) h t r
 room_for size words h t r (lh, lt, lr) = ⊎_elim inl new (cases_Bool (marked size words h t r))
   where
-    new : marked size words h t r ≡ false → Takes size (size * size * 32) (marked size words) h t r
+    new : marked size words h t r ≡ false → HasRoom size (size * size * 32) (marked size words) h t r
     new e =
         let more = members_added size h t r (marked size words) (lh, lt, omega arith) e in
         inr (λ full. omega (arith, members_le size (added h t r (marked size words))))

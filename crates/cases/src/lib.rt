@@ -1,3 +1,5 @@
 // Examples at the edges of the rules, one module for each crate that they are about.
+#![tactic(auto)]
+
 #[cfg(test)]
 mod stores;

@@ -2,7 +2,7 @@
 use board::Board;
 use roll::Roll;
 use std::process::Abort;
-use std::test::*;
+use std::test::Fail;
 use store::Store;
 use store::any::{clear, count};
 use store::fault::StoreFault;
@@ -63,32 +63,37 @@ fn steps(last: u8, size: u8) -> [(Step, Result<(), StoreFault>, u32, u32); 20] {
 }
 
 // Spare and count agree, and size and limit are what they were.
-fn check_numbers<S: Store>(store: &S, size: u8, limit: u32, members: u32) -> Result<(), Fail> {
-    assert_eq!(store.size(), size);
-    assert_eq!(store.limit(), limit);
-    assert_eq!(count(store), members);
-    assert_eq!(store.spare() == 0, members == limit);
-    assert!(store.spare() <= limit.saturating_sub(members));
-    Ok(())
+fn check_numbers<S: Store>(rt: &impl Abort, store: &S, size: u8, limit: u32, members: u32) {
+    assert_eq!(rt; store.size(), size);
+    assert_eq!(rt; store.limit(), limit);
+    assert_eq!(rt; count(store), members);
+    assert_eq!(rt; store.spare() == 0, members == limit);
+    assert!(rt; store.spare() <= limit.saturating_sub(members));
 }
 
 // Begins with an empty store that has room for four.
-fn follow_steps<S: Store>(store: &mut S, size: u8, limit: u32) -> Result<(), Fail> {
+fn follow_steps<S: Store>(rt: &impl Abort, store: &mut S, size: u8, limit: u32) {
     let last = size.saturating_sub(1);
-    check_numbers(store, size, limit, 0)?;
+    check_numbers(rt, store, size, limit, 0);
     for (step, answer, single, several) in steps(last, size) {
-        assert_eq!(step.ask(store), answer);
-        check_numbers(store, size, limit, if size == 1 { single } else { several })?;
+        assert_eq!(rt; step.ask(store), answer);
+        check_numbers(
+            rt,
+            store,
+            size,
+            limit,
+            if size == 1 { single } else { several },
+        );
     }
     let top = 1 << 31;
-    assert_eq!(store.word(last, 0), top);
-    assert_eq!(store.word(0, 0), if size == 1 { top } else { 1 << 18 });
-    assert_eq!(store.word(0, last), if size == 1 { top } else { 1 });
-    assert_eq!(store.word(size, 0), 0);
-    assert_eq!(store.word(0, size), 0);
-    assert_eq!(store.word(255, 255), 0);
+    assert_eq!(rt; store.word(last, 0), top);
+    assert_eq!(rt; store.word(0, 0), if size == 1 { top } else { 1 << 18 });
+    assert_eq!(rt; store.word(0, last), if size == 1 { top } else { 1 });
+    assert_eq!(rt; store.word(size, 0), 0);
+    assert_eq!(rt; store.word(0, size), 0);
+    assert_eq!(rt; store.word(255, 255), 0);
     clear(store);
-    check_numbers(store, size, limit, 0)
+    check_numbers(rt, store, size, limit, 0);
 }
 
 #[test]
@@ -101,7 +106,7 @@ fn steps_on_boards(rt: HostRuntime) -> Result<(), Fail> {
     ] {
         let mut memory = vec![in rt.alloc(); u32::MAX; words]?;
         let mut board = Board::new(size, memory.as_mut_slice());
-        follow_steps(&mut board, size, limit)?;
+        follow_steps(&rt, &mut board, size, limit);
     }
     Ok(())
 }
@@ -116,7 +121,7 @@ fn steps_on_rolls(rt: HostRuntime) -> Result<(), Fail> {
     for (size, records) in [(1, 4), (2, 5), (127, 4095), (128, 4096)] {
         let mut memory = vec![in rt.alloc(); old; records]?;
         let mut roll = Roll::new(size, memory.as_mut_slice());
-        follow_steps(&mut roll, size, records as u32)?;
+        follow_steps(&rt, &mut roll, size, records as u32);
     }
     Ok(())
 }
@@ -128,17 +133,17 @@ struct Keeper<S: Store> {
 }
 
 impl<S: Store> Keeper<S> {
-    fn follow(&mut self, size: u8, limit: u32) -> Result<(), Fail> {
-        follow_steps(&mut self.store, size, limit)
+    fn follow(&mut self, rt: &impl Abort, size: u8, limit: u32) {
+        follow_steps(rt, &mut self.store, size, limit);
     }
 }
 
 #[test]
-fn steps_on_lent_stores() -> Result<(), Fail> {
+fn steps_on_lent_stores(rt: HostRuntime) {
     let mut words = [0; 4];
     let mut board = Board::new(2, &mut words);
     let mut keeper = Keeper { store: &mut board };
-    keeper.follow(2, 128)?;
+    keeper.follow(&rt, 2, 128);
     let mut records = [Triple {
         holder: 0,
         target: 0,
@@ -146,39 +151,39 @@ fn steps_on_lent_stores() -> Result<(), Fail> {
     }; 4];
     let mut roll = Roll::new(1, &mut records);
     let mut keeper = Keeper { store: &mut roll };
-    keeper.follow(1, 4)
+    keeper.follow(&rt, 1, 4);
 }
 
 // At size 1 there are 32 triples, and the store has room for all of them.
-fn fill_up<S: Store>(rt: &impl Abort, store: &mut S) -> Result<(), Fail> {
+fn fill_up<S: Store>(rt: &impl Abort, store: &mut S) {
     for rights in 0..32 {
-        check_numbers(store, 1, 32, rights as u32)?;
+        check_numbers(rt, store, 1, 32, rights as u32);
         assert_eq!(rt; Step::Put(0, 0, rights).ask(store), Ok(()));
     }
-    check_numbers(store, 1, 32, 32)?;
+    check_numbers(rt, store, 1, 32, 32);
     assert_eq!(rt; store.word(0, 0), u32::MAX);
     assert_eq!(rt; Step::Put(0, 0, 5).ask(store), Ok(()));
     assert_eq!(rt; Step::Take(0, 0, 5).ask(store), Ok(()));
-    check_numbers(store, 1, 32, 31)?;
+    check_numbers(rt, store, 1, 32, 31);
     assert_eq!(rt; Step::Put(0, 0, 5).ask(store), Ok(()));
-    check_numbers(store, 1, 32, 32)
+    check_numbers(rt, store, 1, 32, 32);
 }
 
 #[test]
-fn full_stores(rt: HostRuntime) -> Result<(), Fail> {
+fn full_stores(rt: HostRuntime) {
     let mut words = [7; 1];
-    fill_up(&rt, &mut Board::new(1, &mut words))?;
+    fill_up(&rt, &mut Board::new(1, &mut words));
     let mut records = [Triple {
         holder: 0,
         target: 0,
         rights: 3,
     }; 32];
-    fill_up(&rt, &mut Roll::new(1, &mut records))
+    fill_up(&rt, &mut Roll::new(1, &mut records));
 }
 
 // A full roll refuses what is new to it, and nothing else; what is freed is used again.
 #[test]
-fn full_roll(rt: HostRuntime) -> Result<(), Fail> {
+fn full_roll(rt: HostRuntime) {
     let mut records = [Triple {
         holder: 9,
         target: 9,
@@ -203,23 +208,22 @@ fn full_roll(rt: HostRuntime) -> Result<(), Fail> {
     ];
     for (step, answer, members) in cases {
         assert_eq!(rt; step.ask(&mut roll), answer);
-        check_numbers(&roll, 2, 3, members)?;
+        check_numbers(&rt, &roll, 2, 3, members);
     }
     assert_eq!(rt; roll.word(0, 1), 2);
     assert_eq!(rt; roll.word(1, 1), 0x8000_0001);
     assert_eq!(rt; roll.word(1, 0), 0);
-    Ok(())
 }
 
 // A store over memory that does not suit it.
-fn check_nothing<S: Store>(rt: &impl Abort, store: &mut S) -> Result<(), Fail> {
-    check_numbers(store, 0, 0, 0)?;
+fn check_nothing<S: Store>(rt: &impl Abort, store: &mut S) {
+    check_numbers(rt, store, 0, 0, 0);
     assert_eq!(rt; store.word(0, 0), 0);
     assert_eq!(rt; Step::Put(0, 0, 0).ask(store), OUT);
     assert_eq!(rt; Step::Take(0, 0, 0).ask(store), OUT);
     assert_eq!(rt; Step::Drop(0).ask(store), OUT);
     clear(store);
-    check_numbers(store, 0, 0, 0)
+    check_numbers(rt, store, 0, 0, 0);
 }
 
 #[test]
@@ -245,7 +249,7 @@ fn memory_for_boards(rt: HostRuntime) -> Result<(), Fail> {
             if suits { Ok(()) } else { OUT }
         );
         if !suits {
-            check_nothing(&rt, &mut Board::new(size, memory.as_mut_slice()))?;
+            check_nothing(&rt, &mut Board::new(size, memory.as_mut_slice()));
             for word in memory.iter() {
                 assert_eq!(rt; *word, 0x1234_5678);
             }
@@ -279,7 +283,7 @@ fn memory_for_rolls(rt: HostRuntime) -> Result<(), Fail> {
             if suits { Ok(()) } else { OUT }
         );
         if !suits {
-            check_nothing(&rt, &mut Roll::new(size, memory.as_mut_slice()))?;
+            check_nothing(&rt, &mut Roll::new(size, memory.as_mut_slice()));
             for record in memory.iter() {
                 assert_eq!(rt; *record, old);
             }

@@ -1,6 +1,6 @@
 -- The bytes that an input is read for are enough.
 use Rattle.std.proofs.Common.{◌≡◌, ℕ, ◌+◌, ◌-◌, ◌<◌, ◌≤◌, ◌↔◌, List, length, get_or, take, drop, sym, refl, ap, ◌∙◌, ⊎_elim, arith, lit<, length-take}
-use Rattle.std.specs.List.{AllByRecursion as All}
+use Rattle.std.specs.List.{AllByRecursion}
 use Rattle.std.proofs.ByRecursion.{All-get_or}
 use Rattle.std.proofs.lemmas.List.{drop-drop, drop-take, get_or_past, get_or-take, take-take}
 use Rattle.std.proofs.lemmas.Bool.{cases_lt}
@@ -13,11 +13,11 @@ part xs i k n h =
     ap (λ m. take k (drop i (take m xs))) (sym more) ∙ ap (take k) (drop-take i (n - i) xs) ∙ take-take k (n - i) (drop i xs) (omega arith)
 
 -- a byte, or the 0 for one that is missing
-byte_at : (bytes : List ℕ) → All (λ b. b < 256) bytes → (i : ℕ) → get_or bytes i 0 < 256
+byte_at : (bytes : List ℕ) → AllByRecursion (λ b. b < 256) bytes → (i : ℕ) → get_or bytes i 0 < 256
 byte_at bytes all i =
     ⊎_elim (λ h. All-get_or (λ b. b < 256) bytes i 0 h all) (λ h. rw (get_or_past bytes i 0 h) (lit< tt)) (cases_lt i (length bytes))
 
-module _ (n : ℕ) (bytes : List ℕ) (all : All (λ b. b < 256) bytes) (many : readable ≤ n) where
+module _ (n : ℕ) (bytes : List ℕ) (all : AllByRecursion (λ b. b < 256) bytes) (many : readable ≤ n) where
   at : (i : ℕ) → i < 5 → get_or (take n bytes) i 0 ≡ get_or bytes i 0
   at i h = get_or-take n bytes i 0 (omega arith)
 

@@ -1,6 +1,6 @@
 -- The program's input, byte by byte: the size, the limit (two bytes), the sheet's length (two bytes), the sheet, the calls.
 use Rattle.std.specs.Prelude.{◌≡◌, ℕ, ◌+◌, ◌*◌, ◌/◌, ◌%◌, ◌<◌, ◌≤◌, ◌⊎◌, ◌↔◌, List, ◌∷◌, ◌++◌, length, take, drop, Ok, Err, Result, slice_index}
-use Rattle.std.specs.List.{AllByRecursion as All}
+use Rattle.std.specs.List.{AllByRecursion}
 use Rattle.refusal.specs.declared.Refusal.{Refusal}
 use Rattle.refusal.specs.declared.Refusal.TheVariants.{Broken, OutOfRange}
 use Rattle.protocol.specs.declared.input.Input.{Input}
@@ -76,7 +76,7 @@ readable = 5 + 65535 + 60000
 
 -- whatever stands behind the first n bytes, the input comes apart as if it ended there
 abbrev pub Enough : ℕ → Type 0
-Enough n = (bytes : List ℕ) → All (λ b. b < 256) bytes → Alike (take n bytes) bytes
+Enough n = (bytes : List ℕ) → AllByRecursion (λ b. b < 256) bytes → Alike (take n bytes) bytes
 
 -- what a writer of an input writes
 abbrev pub framed : ℕ → ℕ → List ℕ → List ℕ → List ℕ

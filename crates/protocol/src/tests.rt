@@ -38,8 +38,8 @@ fn split_parts(rt: HostRuntime) -> Result<(), Fail> {
     let input = split(b"\x80\x0f\x02\x00\x03abcdef")?;
     assert_eq!(rt; input.size, 128);
     assert_eq!(rt; input.limit, 0x0f02);
-    assert_eq!(rt; input.sheet, b"abc");
-    assert_eq!(rt; input.calls, b"def");
+    assert_eq!(rt; input.sheet, b"abc".as_slice());
+    assert_eq!(rt; input.calls, b"def".as_slice());
     Ok(())
 }
 

@@ -1,4 +1,6 @@
 // Why a call is refused. This crate alone gives the refusals their numbers.
+#![tactic(auto)]
+
 ghost use Rattle.std.specs.Prelude.{◌≡◌};
 ghost use Rattle.refusal.specs.Numbers.{number, number_of};
 

@@ -1,4 +1,6 @@
 // Rolls: stores that list their members.
+#![tactic(auto)]
+
 ghost use Rattle.std.specs.Prelude.{◌≤◌, length, take};
 ghost use Rattle.roll.specs.Lists.{Apart};
 

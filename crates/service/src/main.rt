@@ -1,4 +1,6 @@
 // Reads a size, a limit, a sheet and calls from standard input, and prints the answers.
+#![tactic(auto)]
+
 #[cfg(test)]
 mod tests;
 mod verdict;

@@ -1,6 +1,6 @@
 -- A walk through a sheet, record by record.
-use Rattle.std.proofs.Common.{◌≡◌, ℕ, ◌+◌, ◌<◌, ◌≤◌, List, [], ◌∷◌, ◌++◌, length, drop, Ok, Err, Result, sym, refl, ap, ◌∙◌, subst, ap₂, subst₂, arith, lit<, length-append}
-use Rattle.std.specs.List.{AllByRecursion as All}
+use Rattle.std.proofs.Common.{◌≡◌, ℕ, ◌+◌, ◌≤◌, List, [], ◌∷◌, ◌++◌, length, drop, Ok, Err, Result, sym, refl, ap, ◌∙◌, subst, ap₂, subst₂, arith, lit<, length-append}
+use Rattle.std.specs.List.{AllByRecursion}
 use Rattle.std.proofs.ByRecursion.{All-push}
 use Rattle.std.proofs.lemmas.List.{append_assoc, append_cancel_left, append-nil, drop_at, drop-drop, flat_map_more, length_push}
 use Rattle.sheet.specs.declared.fault.Fault.{Fault}
@@ -22,7 +22,7 @@ bytes_some (arrow from to) = omega arith
 -- the reader has gone past so many lawful records of the sheet
 pub record Sofar (sheet : List ℕ) (reader : Reader) (count : ℕ) : Type 0 where
   pub said : List Entry
-  pub lawful : All Lawful said
+  pub lawful : AllByRecursion Lawful said
   pub same : sheet_of reader ≡ sheet
   pub front : sheet ≡ written said ++ rest reader
   pub at : reader.at ≡ length (written said)
@@ -57,7 +57,7 @@ stands_first : (said : Entry) (more : List Entry) (rest : List ℕ) → Lawful s
 stands_first said more rest l = (l, (written more ++ rest, append_assoc (bytes said) (written more) rest))
 
 -- there is one walk through a sheet
-one_walk : (a b : List Entry) (rest rest' : List ℕ) (o o' : Outcome) → All Lawful a → All Lawful b → Stop o → Stop o'
+one_walk : (a b : List Entry) (rest rest' : List ℕ) (o o' : Outcome) → AllByRecursion Lawful a → AllByRecursion Lawful b → Stop o → Stop o'
     → Shows rest o → Shows rest' o' → written a ++ rest ≡ written b ++ rest' → (a ≡ b) × (o ≡ o')
 one_walk [] [] rest rest' o o' la lb s s' h h' e = (refl, one_outcome rest o o' h (rw e h'))
 one_walk [] (y ∷ b) rest rest' o o' la lb s s' h h' e =
@@ -79,7 +79,7 @@ unambiguous rest a b h h' = let e = one_outcome rest (entry a) (entry b) h h' in
 pub one_reading : OneReading
 one_reading a b la lb e = (one_walk a b [] [] end end la lb tt tt refl refl (ap (λ l. l ++ []) e)).0
 
-reads_on : (front : List ℕ) (said : List Entry) → All Lawful said → Reads (front ++ written said) (length front) said
+reads_on : (front : List ℕ) (said : List Entry) → AllByRecursion Lawful said → Reads (front ++ written said) (length front) said
 reads_on front [] l = drop_at front [] _ refl
 reads_on front (x ∷ said) l = (
   rw (drop_at front (written (x ∷ said)) _ refl) (l.0, (written said, refl)),

@@ -1,6 +1,6 @@
 -- Whole sheets, and what is true of the format.
 use Rattle.std.specs.Prelude.{◌≡◌, ℕ, ◌+◌, List, [], ◌∷◌, ◌++◌, length, drop, Ok, Err, Result}
-use Rattle.std.specs.List.{AllByRecursion as All}
+use Rattle.std.specs.List.{AllByRecursion}
 use Rattle.sheet.specs.declared.fault.Fault.{Fault}
 use Rattle.sheet.specs.Entries.{Entry, bytes, Lawful, written}
 use Rattle.sheet.specs.Flaws.{Flawed}
@@ -8,12 +8,12 @@ use Rattle.sheet.specs.Outcomes.{entry, end, Stands, Shows}
 
 -- the sheet is these lawful records, one after another
 abbrev pub WellFormed : List ℕ → List Entry → Type 0
-WellFormed sheet said = All Lawful said × (sheet ≡ written said)
+WellFormed sheet said = AllByRecursion Lawful said × (sheet ≡ written said)
 
 -- the sheet begins with lawful records, and then comes a flaw
 abbrev pub BrokenAt : List ℕ → Fault → Type 0
 BrokenAt sheet fault =
-    (said : List Entry) × (rest : List ℕ) × All Lawful said × (sheet ≡ written said ++ rest)
+    (said : List Entry) × (rest : List ℕ) × AllByRecursion Lawful said × (sheet ≡ written said ++ rest)
     × (length (written said) ≡ fault.place) × Flawed fault.flaw rest
 
 -- what the number of a sheet's records, or its fault, says of the sheet
@@ -32,8 +32,8 @@ Unambiguous = (rest : List ℕ) (a b : Entry) → Stands a rest → Stands b res
 
 -- lawful records that are written one after another are read back as themselves
 abbrev pub ReadBack : Type 0
-ReadBack = (said : List Entry) → All Lawful said → Reads (written said) 0 said
+ReadBack = (said : List Entry) → AllByRecursion Lawful said → Reads (written said) 0 said
 
 -- and no other lawful records are written as the same sheet
 abbrev pub OneReading : Type 0
-OneReading = (a b : List Entry) → All Lawful a → All Lawful b → written a ≡ written b → a ≡ b
+OneReading = (a b : List Entry) → AllByRecursion Lawful a → AllByRecursion Lawful b → written a ≡ written b → a ≡ b

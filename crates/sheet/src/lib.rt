@@ -1,4 +1,6 @@
 // The reader of sheets: bytes in, records out.
+#![tactic(auto)]
+
 pub mod count;
 pub mod fault;
 pub mod reader;

@@ -88,8 +88,8 @@ fn long_names(rt: HostRuntime) -> Result<(), Fail> {
     assert_eq!(rt; place, 0);
     assert_eq!(rt; from.place, 2);
     assert_eq!(rt; to.place, 35);
-    assert_eq!(rt; from.bytes, b"gaugeset-dp-0123456789.abcdef600");
-    assert_eq!(rt; to.bytes, b"gaugeset-dp-0123456789.abcdef601");
+    assert_eq!(rt; from.bytes, b"gaugeset-dp-0123456789.abcdef600".as_slice());
+    assert_eq!(rt; to.bytes, b"gaugeset-dp-0123456789.abcdef601".as_slice());
     assert!(rt; from.bytes != to.bytes);
     Ok(())
 }

@@ -1,5 +1,5 @@
 -- What an answer tells.
-use Rattle.std.proofs.Common.{◌≡◌, true, false, is_err, Ok, Err}
+use Rattle.std.proofs.Common.{◌≡◌, false, is_err, Ok, Err}
 use Rattle.std.proofs.lemmas.Bool.{true≢false}
 use Rattle.store.specs.Answers.{Answer, OutOfRangeUnless}
 

@@ -1,7 +1,9 @@
 // Stores: where a table keeps its triples. One meaning, and several ways to keep to it.
+#![tactic(auto)]
+
 ghost use Rattle.std.specs.Prelude.{◌≡◌, ℕ, ◌+◌, ◌<◌, ◌≤◌, true, ◌↔◌};
 ghost use Rattle.access.specs.Rights.{bit};
-ghost use Rattle.access.specs.Rules.Sets.{Triples, added, removed, dropped, members, Takes};
+ghost use Rattle.access.specs.Rules.Sets.{Triples, added, removed, dropped, members, HasRoom};
 ghost use Rattle.store.specs.Ranges.{at, InRange};
 ghost use Rattle.store.specs.Answers.{OutOfRangeUnless, FullUnless, NeverFull, Becomes};
 
@@ -50,7 +52,7 @@ pub trait Store {
     // Makes the triple a member. A full store refuses one that is new.
     fn put(&mut self, triple: Triple) -> Result<(), StoreFault>
         ensures range { OutOfRangeUnless (at triple (InRange (size self.old))) result }
-        ensures room { FullUnless (at triple (Takes (size self.old) (limit self.old) (holds self.old))) result }
+        ensures room { FullUnless (at triple (HasRoom (size self.old) (limit self.old) (holds self.old))) result }
         ensures adds { Becomes result (at triple added) (holds self.old) (holds self.new) }
         ensures size { size self.new ≡ size self.old }
         ensures limit { limit self.new ≡ limit self.old };

@@ -11,7 +11,7 @@ same_parts x y z h t r e =
     let (q, s) = and_parts (eqb t y) (eqb r z) more in
     (eqb-true h x p, eqb-true t y q, eqb-true r z s)
 
-same_is : (x y z h t r : ℕ) → (same x y z h t r ≡ true) ↔ Is x y z h t r
+pub same_is : (x y z h t r : ℕ) → (same x y z h t r ≡ true) ↔ Is x y z h t r
 same_is x y z h t r =
     (same_parts x y z h t r, λ (p, q, s). and_from _ _ (eq-eqb h x p) (and_from _ _ (eq-eqb t y q) (eq-eqb r z s)))
 

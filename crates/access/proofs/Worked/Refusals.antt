@@ -1,5 +1,5 @@
 -- The examples for the refusals.
-use Rattle.std.proofs.Common.{true, false, [], ◌∷◌, Err, sym, refl, inr, ⊎_elim, arith, lit<, lit≤}
+use Rattle.std.proofs.Common.{true, [], ◌∷◌, Err, sym, refl, inr, ⊎_elim, arith, lit<, lit≤}
 use Rattle.std.proofs.lemmas.Bool.{true≢false}
 use Rattle.refusal.specs.declared.Refusal.TheVariants as refuse
 use Rattle.sheet.specs.Entries.{arrow}

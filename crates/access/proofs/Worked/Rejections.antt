@@ -1,5 +1,5 @@
 -- Two sheets that accept refuses, and what it tells.
-use Rattle.std.proofs.Common.{◌≡◌, ℕ, zero, suc, ◌<◌, ◌≤◌, true, false, ◌⊎◌, [], ◌∷◌, ◌++◌, Some, Ok, sym, refl, ◌∙◌, subst, inl, inr, arith, lit<, lit≤}
+use Rattle.std.proofs.Common.{◌≡◌, ℕ, zero, suc, ◌<◌, ◌≤◌, ◌⊎◌, [], ◌∷◌, ◌++◌, Some, Ok, sym, refl, ◌∙◌, subst, inl, inr, arith, lit<, lit≤}
 use Rattle.std.proofs.lemmas.Bool.{eqb-false, true≢false}
 use Rattle.refusal.specs.declared.Refusal.TheVariants as refuse
 use Rattle.sheet.specs.Entries.{capability, arrow}

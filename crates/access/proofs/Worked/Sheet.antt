@@ -1,6 +1,6 @@
 -- The worked sheet loads, and accept passes it.
-use Rattle.std.proofs.Common.{◌≡◌, ℕ, ◌<◌, ◌≤◌, ◌⊎◌, List, [], ◌∷◌, ◌++◌, Some, None, Ok, Option, refl, inl, inr, lit<, lit≤}
-use Rattle.std.specs.List.{AllByRecursion as All}
+use Rattle.std.proofs.Common.{◌≡◌, ℕ, ◌⊎◌, List, [], ◌∷◌, ◌++◌, Some, None, Ok, Option, refl, inl, inr, lit<, lit≤}
+use Rattle.std.specs.List.{AllByRecursion}
 use Rattle.std.proofs.lemmas.Bool.{eqb-false}
 use Rattle.sheet.specs.Names.{LawfulName}
 use Rattle.sheet.specs.Entries.{Entry, arrow, Lawful}
@@ -33,7 +33,7 @@ gauge_lawful = ((lit≤ tt, lit≤ tt), (refl, (refl, (refl, (refl, (refl, tt)))
 solver_lawful : LawfulName solver
 solver_lawful = ((lit≤ tt, lit≤ tt), (refl, (refl, (refl, (refl, (refl, (refl, tt)))))))
 
-pub worked_lawful : All Lawful worked
+pub worked_lawful : AllByRecursion Lawful worked
 worked_lawful = (gauge_lawful, (solver_lawful, (gauge_lawful, (gauge_lawful, (solver_lawful, (solver_lawful, rest))))))
   where
     rest : Unit {0} × (Unit {0} × (Unit {0} × (Unit {0} × (Unit {0} × ((LawfulName gauge × LawfulName solver) × Unit {0})))))

@@ -1,5 +1,5 @@
 -- The ten calls on the worked sheet get their answers.
-use Rattle.std.proofs.Common.{◌≡◌, ℕ, Bool, true, false, cond, not, ◌||◌, eqb, ◌⊎◌, None, Ok, Err, Option, sym, refl, ap, ◌∙◌, inr, ⊎_elim, lit<, lit≤}
+use Rattle.std.proofs.Common.{◌≡◌, ℕ, Bool, cond, not, ◌||◌, eqb, None, Ok, Err, Option, sym, refl, ap, ◌∙◌, inr, ⊎_elim, lit<, lit≤}
 use Rattle.std.proofs.lemmas.Bool.{cases_eq, eq-eqb, ne_eqb, eqb-false, true≢false}
 use Rattle.refusal.specs.declared.Refusal.TheVariants as refuse
 use Rattle.access.specs.Chains.{here, step}

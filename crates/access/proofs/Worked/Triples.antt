@@ -1,5 +1,5 @@
 -- Sets of triples that are given as lists.
-use Rattle.std.proofs.Common.{◌≡◌, ℕ, Bool, true, false, ◌&&◌, ◌⊎◌, List, [], ◌∷◌, sym, ⊎_elim}
+use Rattle.std.proofs.Common.{◌≡◌, ℕ, Bool, true, ◌&&◌, List, [], ◌∷◌, sym, ⊎_elim}
 use Rattle.std.proofs.lemmas.Bool.{and_parts, or_cases, true≢false}
 use Rattle.access.specs.Rules.Sets.{Triples, none, same, added}
 use Rattle.access.proofs.Rules.Membership.{at_same}

@@ -1,5 +1,5 @@
 -- What a revoke takes and what it leaves.
-use Rattle.std.specs.Prelude.{◌≡◌, ℕ, ◌≢◌}
+use Rattle.std.specs.Prelude.{ℕ, ◌≢◌}
 use Rattle.access.specs.declared.capability.Capability.{Capability}
 use Rattle.access.specs.declared.right.Right.{Right}
 use Rattle.access.specs.Rights.{In, common}

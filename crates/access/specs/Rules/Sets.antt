@@ -38,5 +38,5 @@ unfoldable pub members : ℕ → Triples → ℕ
 members size set = total (λ h. total (λ t. total (λ r. cond (set h t r) 1 0) 32) size) size
 
 -- a store of this size and limit can take the triple: it is full only with as many members as its limit
-abbrev pub Takes : ℕ → ℕ → Triples → ℕ → ℕ → ℕ → Type 0
-Takes size limit set h t r = (set h t r ≡ true) ⊎ (members size set ≡ limit → ⊥)
+abbrev pub HasRoom : ℕ → ℕ → Triples → ℕ → ℕ → ℕ → Type 0
+HasRoom size limit set h t r = (set h t r ≡ true) ⊎ (members size set ≡ limit → ⊥)

@@ -1,8 +1,7 @@
 -- The worked sheet, ten calls on it, and two sheets that are refused.
 use Rattle.std.specs.Prelude.{◌≡◌, ℕ, List, [], ◌∷◌, ◌++◌, length, Ok, Err}
-use Rattle.std.specs.List.{AllByRecursion as All}
+use Rattle.std.specs.List.{AllByRecursion}
 use Rattle.refusal.specs.declared.Refusal.{Refusal}
-use Rattle.refusal.specs.declared.Refusal.TheVariants as refuse
 use Rattle.refusal.specs.Numbers.{number}
 use Rattle.sheet.specs.Entries.{Entry, compartment, entity, capability, arrow, Lawful, written}
 use Rattle.access.specs.Model.States.{cap}
@@ -67,7 +66,7 @@ Rejected said reason tells =
 
 pub record WorkedExample : Type 0 where
   -- the records are lawful, and 83 bytes long in this order
-  pub lawful : All Lawful worked
+  pub lawful : AllByRecursion Lawful worked
   pub bytes : length (written worked) ≡ 83
   -- the sheet is accepted, and ten calls follow
   pub answered : Yields empty (load worked whole ∷ accept 128 ∷ calls) (0 ∷ 0 ∷ answers)

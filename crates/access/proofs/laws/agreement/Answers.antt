@@ -8,7 +8,7 @@ pub returns : goal.returns
 returns c = record {
   accepts_legal = accepts_legal;
   serves_model = serves_model;
-  accounts-model = λ past op marks legal. record {
+  accounts_model = λ past op marks legal. record {
     present = present_after (after past) op legal;
     holds = λ h t r. (λ held. held, λ held. held);
   };

@@ -12,10 +12,10 @@ returns c = record {
     refused = λ past op marks refusal sound. sound;
   };
   whole_runs = whole_runs;
-  local-means = λ history sane. (
+  local_means = λ history sane. (
     λ local. (separation (after history) sane (separate (after history) sane local), flow (after history) sane local),
     λ both. to_local (after history) sane (from_separation (after history) sane both.0) both.1,
   );
   groups_flow = λ history sane. groups_flow (after history) sane;
-  chains-add-nothing = λ history sane. (separation (after history) sane, from_separation (after history) sane);
+  chains_add_nothing = λ history sane. (separation (after history) sane, from_separation (after history) sane);
 }

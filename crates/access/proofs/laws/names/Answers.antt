@@ -4,6 +4,6 @@ use Rattle.access.proofs.laws.names.Goals as goal
 
 pub returns : goal.returns
 returns c = record {
-  found-whole = record { found = found; missing = λ name names. (missing name names, not_missing name names) };
+  found_whole = record { found = found; missing = λ name names. (missing name names, not_missing name names) };
   load_shows = load_shows;
 }

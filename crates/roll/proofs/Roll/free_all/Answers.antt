@@ -5,11 +5,11 @@ use Rattle.roll.proofs.Moving.{apart_moving, listed_moved, moves_other, passes_o
 use Rattle.roll.proofs.Roll.free_all.Goals as goal
 use Rattle.roll.proofs.Roll.free_all.Goals.{then-record-holder, else-record-holder}
 
-pub invariant-of-self : goal.invariant-of-self
-invariant-of-self c = search (rules, members_none)
+pub invariant_of-self : goal.invariant_of-self
+invariant_of-self c = search (rules, members_none)
 
-pub invariant-of-self-then-record-holder : goal.invariant-of-self-then-record-holder
-invariant-of-self-then-record-holder c =
+pub invariant_of-self-then-record-holder : goal.invariant_of-self-then-record-holder
+invariant_of-self-then-record-holder c =
     let old = c.args.self.now in
     let roll = c.loop-place.self in
     let place = c.loop-place.place in

@@ -5,4 +5,4 @@ use Rattle.roll.proofs.Roll.has.Goals as goal
 
 pub returns : goal.returns
 returns c =
-    c.is-some.ensures ∙ listed_found (used c.args.self.now) c.args.triple c.find.result c.find.ensures
+    c.is_some.ensures ∙ listed_found (used c.args.self.now) c.args.triple c.find.result c.find.ensures

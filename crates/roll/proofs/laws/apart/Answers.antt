@@ -16,13 +16,13 @@ first-once size x xs i apart below is =
     (apart_gone size (x ∷ xs) xs x (sym (add-one (length xs))) (λ h t r. refl) apart)
     (subst (λ (y : Triple). at y (listed xs) ≡ true) (sym is) (listed_at xs i below))
 
-none-twice : NoneTwice
-none-twice size [] i j apart li lj is = absurd (omega arith)
-none-twice size (x ∷ xs) zero zero apart li lj is = refl
-none-twice size (x ∷ xs) zero (suc j) apart li lj is = absurd (first-once size x xs j apart (omega arith) is)
-none-twice size (x ∷ xs) (suc i) zero apart li lj is = absurd (first-once size x xs i apart (omega arith) (sym is))
-none-twice size (x ∷ xs) (suc i) (suc j) apart li lj is =
-    ap suc (none-twice size xs i j (apart_rest size x xs apart) (omega arith) (omega arith) is)
+none_twice : NoneTwice
+none_twice size [] i j apart li lj is = absurd (omega arith)
+none_twice size (x ∷ xs) zero zero apart li lj is = refl
+none_twice size (x ∷ xs) zero (suc j) apart li lj is = absurd (first-once size x xs j apart (omega arith) is)
+none_twice size (x ∷ xs) (suc i) zero apart li lj is = absurd (first-once size x xs i apart (omega arith) (sym is))
+none_twice size (x ∷ xs) (suc i) (suc j) apart li lj is =
+    ap suc (none_twice size xs i j (apart_rest size x xs apart) (omega arith) (omega arith) is)
 
 pub returns : goal.returns
-returns c = record { none-twice = none-twice; all-in-range = apart_at }
+returns c = record { none_twice = none_twice; all_in_range = apart_at }

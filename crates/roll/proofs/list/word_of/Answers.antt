@@ -12,7 +12,7 @@ loop-member-preserved c r =
     let list = c.args.list.now in
     let index = c.loop-member.member-index in
     let member = get_or list index blank in
-    c.with-member-word.ensures r
+    c.with_member-word.ensures r
     ∙ ap (λ (b : Bool). at member same c.args.holder c.args.target r || b) (c.loop-member.invariant r)
     ∙ sym (listed_push (take index list) member c.args.holder c.args.target r)
     ∙ sym (ap (λ (l : List Triple). listed l c.args.holder c.args.target r) (take_more list index blank c.loop-member-test.true))

@@ -5,24 +5,24 @@ use Rattle.sheet.specs.Records.{said}
 use Rattle.sheet.proofs.Walking.{Alone, step, whole_sheet, broken_sheet, unambiguous, read_back, one_reading}
 use Rattle.sheet.proofs.count.count_records.Goals as goal
 
-pub returns-in-err--record : goal.returns-in-err--record
-returns-in-err--record c =
-    let next = c.in-err--record.ensures in
-    let fault = c.in-err--record.field-0.0 in
-    let p = err_from_is_err_and c.from-residual.result c.from-residual.ensures.1 in
+pub returns-in_err-_record : goal.returns-in_err-_record
+returns-in_err-_record c =
+    let next = c.in_err-_record.ensures in
+    let fault = c.in_err-_record.field-0.0 in
+    let p = err_from_is_err_and c.from_residual.result c.from_residual.ensures.1 in
     let ends = broken_sheet c.loop-record.invariant fault next.places ((next.exactly (broken fault.flaw)).0 refl) in
-    let answer : Alone c.args.sheet.now c.from-residual.result = rw (p.1, p.2) ends in
+    let answer : Alone c.args.sheet.now c.from_residual.result = rw (p.1, p.2) ends in
     record { counts = answer.0; alone = answer.1; unambiguous = unambiguous; read_back = read_back; one_reading = one_reading }
 
 pub loop-record-preserved : goal.loop-record-preserved
 loop-record-preserved c =
-    let next = c.in-ok--record.ensures in
-    let found = said c.in-Some.-record in
+    let next = c.in_ok-_record.ensures in
+    let found = said c.in-Some._record in
     let is = ap (λ x. outcome (Ok x)) c.in-Some.is in
     step found c.loop-record.invariant is ((next.exactly (entry found)).0 is) next.same next.moves
 
 pub returns : goal.returns
 returns c =
-    let next = c.in-ok--record.ensures in
-    let answer = whole_sheet c.loop-record.invariant ((next.exactly end).0 (ap (λ x. outcome (Ok x)) c.in-default.is)) in
+    let next = c.in_ok-_record.ensures in
+    let answer = whole_sheet c.loop-record.invariant ((next.exactly end).0 (ap (λ x. outcome (Ok x)) c.in_default.is)) in
     record { counts = answer.0; alone = answer.1; unambiguous = unambiguous; read_back = read_back; one_reading = one_reading }

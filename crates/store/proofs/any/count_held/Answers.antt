@@ -8,8 +8,8 @@ pub loop-target-init : goal.loop-target-init
 unfolding total
 loop-target-init g c = (refl, omega arith)
 
-pub overflow-add-count : goal.overflow-add-count
-overflow-add-count g c =
+pub overflow_add-count : goal.overflow_add-count
+overflow_add-count g c =
     let small = g.S.Store.small c.args.store.now in
     let (_, few) = c.loop-target.invariant in
     omega (arith, ones-le 32 c.word.result (omega arith))

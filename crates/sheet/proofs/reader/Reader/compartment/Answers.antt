@@ -3,6 +3,6 @@ use Rattle.sheet.proofs.Broken.{bad_in}
 use Rattle.sheet.proofs.Reading.{leaves}
 use Rattle.sheet.proofs.reader.Reader.compartment.Goals as goal
 
-pub returns-in-err-name : goal.returns-in-err-name
-returns-in-err-name c =
-    leaves _ _ _ _ _ _ c.from-residual.ensures.1 (bad_in _ declaring _ c.in-err-name.ensures)
+pub returns-in_err-name : goal.returns-in_err-name
+returns-in_err-name c =
+    leaves _ _ _ _ _ _ c.from_residual.ensures.1 (bad_in _ declaring _ c.in_err-name.ensures)
