@@ -2,4 +2,8 @@
 #![tactic(auto)]
 
 #[cfg(test)]
+mod sheets;
+#[cfg(test)]
 mod stores;
+#[cfg(test)]
+mod words;

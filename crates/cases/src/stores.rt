@@ -1,5 +1,6 @@
 // One table of cases for every kind of store.
 use board::Board;
+use refusal::Refusal;
 use roll::Roll;
 use std::process::Abort;
 use std::test::Fail;
@@ -290,4 +291,10 @@ fn memory_for_rolls(rt: HostRuntime) -> Result<(), Fail> {
         }
     }
     Ok(())
+}
+
+#[test]
+fn numbers_of_faults(rt: HostRuntime) {
+    assert_eq!(rt; Refusal::from(StoreFault::OutOfRange).number(), 2);
+    assert_eq!(rt; Refusal::from(StoreFault::Full).number(), 8);
 }
