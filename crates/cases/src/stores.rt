@@ -295,6 +295,6 @@ fn memory_for_rolls(rt: HostRuntime) -> Result<(), Fail> {
 
 #[test]
 fn numbers_of_faults(rt: HostRuntime) {
-    assert_eq!(rt; Refusal::from(StoreFault::OutOfRange).number(), 2);
-    assert_eq!(rt; Refusal::from(StoreFault::Full).number(), 8);
+    assert_eq!(rt; u8::from(Refusal::from(StoreFault::OutOfRange)), 2);
+    assert_eq!(rt; u8::from(Refusal::from(StoreFault::Full)), 8);
 }

@@ -6,7 +6,7 @@ use std::test::Fail;
 fn answer(bytes: &[u8]) -> u8 {
     match split(bytes) {
         Ok(_) => 0,
-        Err(refusal) => refusal.number(),
+        Err(refusal) => u8::from(refusal),
     }
 }
 

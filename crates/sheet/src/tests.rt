@@ -109,6 +109,6 @@ fn a_fault_again(rt: HostRuntime) -> Result<(), Fail> {
         };
         assert_eq!(rt; found, fault);
     }
-    assert_eq!(rt; Refusal::from(fault).number(), 12);
+    assert_eq!(rt; u8::from(Refusal::from(fault)), 12);
     Ok(())
 }
