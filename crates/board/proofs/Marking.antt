@@ -8,7 +8,7 @@ use Rattle.access.specs.Rights.{bit}
 use Rattle.access.specs.Rules.Sets.{Triples, none, same, added, removed, dropped}
 use Rattle.access.proofs.Bits.{bit_past, bit_zero}
 use Rattle.access.proofs.Rules.Membership.{added_elsewhere, dropped_elsewhere, dropped_there, removed_elsewhere}
-use Rattle.store.specs.Answers.{Same}
+use Rattle.store.specs.Contents.{Same}
 use Rattle.board.specs.Boards.{marked}
 use Rattle.store.specs.Ranges.{inside}
 

@@ -6,7 +6,7 @@ use Rattle.access.specs.Rules.Sets.{same, added, removed, members}
 use Rattle.access.proofs.Rules.Counting.{members_added, members_added_le, members_same}
 use Rattle.access.proofs.Rules.Membership.{added_again, removed_added}
 use Rattle.store.specs.declared.triple.Triple.{Triple}
-use Rattle.store.specs.Answers.{Same}
+use Rattle.store.specs.Contents.{Same}
 use Rattle.roll.specs.Lists.{listed, Apart, blank}
 use Rattle.roll.specs.Facts.{apart_fewer, listed_le, listed_ranged}
 use Rattle.store.specs.Ranges.{at, InRange}

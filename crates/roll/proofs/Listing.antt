@@ -6,7 +6,7 @@ use Rattle.access.specs.Model.Operations.{Is}
 use Rattle.access.specs.Rules.Sets.{Triples, same, added}
 use Rattle.access.proofs.Rules.Membership.{added_elsewhere, added_there}
 use Rattle.store.specs.declared.triple.Triple.{Triple}
-use Rattle.store.specs.Answers.{Same}
+use Rattle.store.specs.Contents.{Same}
 use Rattle.roll.specs.Lists.{listed, Found, blank}
 use Rattle.store.specs.Ranges.{at}
 

@@ -7,7 +7,7 @@ use Rattle.access.specs.Rules.Sets.{same, added, dropped}
 use Rattle.access.proofs.Rules.Counting.{members_added}
 use Rattle.access.proofs.Rules.Membership.{same_parts}
 use Rattle.store.specs.declared.triple.Triple.{Triple}
-use Rattle.store.specs.Answers.{Same}
+use Rattle.store.specs.Contents.{Same}
 use Rattle.roll.specs.Lists.{listed, Apart, blank}
 use Rattle.roll.specs.Facts.{apart_ranged, apart_rest}
 use Rattle.store.specs.Ranges.{at}

@@ -6,7 +6,7 @@ use Rattle.access.specs.Rules.Sets.{added, members, same}
 use Rattle.access.proofs.Rules.Counting.{counts_or_not, members_added_le, members_added_outside, members_none, members_same}
 use Rattle.access.proofs.Rules.Membership.{at_same}
 use Rattle.store.specs.declared.triple.Triple.{Triple}
-use Rattle.store.specs.Answers.{Same}
+use Rattle.store.specs.Contents.{Same}
 use Rattle.roll.specs.Lists.{listed, Apart}
 use Rattle.store.specs.Ranges.{at, InRange}
 

@@ -1,8 +1,9 @@
 -- How a store answers a call that would change it, and what its members are then.
-use Rattle.std.specs.Prelude.{◌≡◌, ℕ, Ok, Err, Result}
+use Rattle.std.specs.Prelude.{Ok, Err, Result}
 use Rattle.access.specs.Rules.Sets.{Triples}
 use Rattle.store.specs.declared.fault.StoreFault.{StoreFault}
 use Rattle.store.specs.declared.fault.StoreFault.TheVariants.{OutOfRange, Full}
+use Rattle.store.specs.Contents.{Contents, NowHolds}
 
 abbrev pub Answer : Type 0
 Answer = Result (Unit {0}) StoreFault
@@ -19,15 +20,12 @@ FullUnless room (Ok _) = room
 FullUnless room (Err OutOfRange) = Unit {0}
 FullUnless room (Err Full) = room → ⊥
 
--- there is always room
-abbrev pub NeverFull : Answer → Type 0
-NeverFull = FullUnless (Unit {0})
+-- a call that has one way to fail is refused exactly if its numbers are not in range
+abbrev pub RefusedUnless : {E : Type 0} → Type 0 → Result (Unit {0}) E → Type 0
+RefusedUnless ranged (Ok _) = ranged
+RefusedUnless ranged (Err _) = ranged → ⊥
 
--- the two sets have the same members
-abbrev pub Same : Triples → Triples → Type 0
-Same a b = (h t r : ℕ) → a h t r ≡ b h t r
-
--- the members after a call: changed if it is accepted, as before if it is refused
-abbrev pub Becomes : Answer → (Triples → Triples) → (before after : Triples) → Type 0
-Becomes (Ok _) changed before after = Same after (changed before)
-Becomes (Err _) changed before after = Same after before
+-- the members after a call: changed if it is accepted, as before if it is refused; size and limit never change
+abbrev pub Becomes : {E : Type 0} → Result (Unit {0}) E → (Triples → Triples) → (before after : Contents) → Type 0
+Becomes (Ok _) changed before after = NowHolds before after (changed before.holds)
+Becomes (Err _) changed before after = NowHolds before after before.holds

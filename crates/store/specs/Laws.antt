@@ -8,7 +8,7 @@ use Rattle.access.specs.Rights.{bit, In}
 use Rattle.access.specs.Words.{InSome}
 use Rattle.access.specs.Rules.Sets.{Triples, added, removed, dropped, members}
 use Rattle.store.specs.declared.fault.StoreFault.TheVariants.{OutOfRange, Full}
-use Rattle.store.specs.Answers.{Same}
+use Rattle.store.specs.Contents.{Same}
 use Rattle.store.specs.Ranges.{InRange}
 use Rattle.store.specs.Refusals.{refusal}
 

@@ -1,4 +1,5 @@
 pub mod Refusals
 pub mod Ranges
+pub mod Contents
 pub mod Answers
 pub mod Laws

@@ -1,22 +1,12 @@
 // A store that is lent is a store: a table can hold one whose owner and memory are elsewhere.
 use crate::Store;
-use crate::fault::StoreFault;
+use crate::fault::{OutOfRange, StoreFault};
 use crate::triple::Triple;
 
 impl<'a, S: Store> Store for &'a mut S {
-    ghost holds = { λ s. S.Store.holds s.now };
+    ghost contents = { λ s. S.Store.contents s.now };
 
-    ghost size = { λ s. S.Store.size s.now };
-
-    ghost limit = { λ s. S.Store.limit s.now };
-
-    ghost small = { λ s. S.Store.small s.now };
-
-    ghost bounded = { λ s. S.Store.bounded s.now };
-
-    ghost ranged = { λ s. S.Store.ranged s.now };
-
-    ghost fits = { λ s. S.Store.fits s.now };
+    ghost lawful = { λ s. S.Store.lawful s.now };
 
     fn size(&self) -> u8 {
         (**self).size()
@@ -38,11 +28,11 @@ impl<'a, S: Store> Store for &'a mut S {
         (**self).put(triple)
     }
 
-    fn take(&mut self, triple: Triple) -> Result<(), StoreFault> {
+    fn take(&mut self, triple: Triple) -> Result<(), OutOfRange> {
         (**self).take(triple)
     }
 
-    fn drop_holder(&mut self, holder: u8) -> Result<(), StoreFault> {
+    fn drop_holder(&mut self, holder: u8) -> Result<(), OutOfRange> {
         (**self).drop_holder(holder)
     }
 }

@@ -1,13 +1,14 @@
 // Stores: where a table keeps its triples. One meaning, and several ways to keep to it.
 #![tactic(auto)]
 
-ghost use Rattle.std.specs.Prelude.{◌≡◌, ℕ, ◌+◌, ◌<◌, ◌≤◌, true, ◌↔◌};
+ghost use Rattle.std.specs.Prelude.{◌≡◌, ℕ, ◌+◌, ◌<◌, ◌≤◌, ◌↔◌};
 ghost use Rattle.access.specs.Rights.{bit};
-ghost use Rattle.access.specs.Rules.Sets.{Triples, added, removed, dropped, members, HasRoom};
+ghost use Rattle.access.specs.Rules.Sets.{added, removed, dropped};
 ghost use Rattle.store.specs.Ranges.{at, InRange};
-ghost use Rattle.store.specs.Answers.{OutOfRangeUnless, FullUnless, NeverFull, Becomes};
+ghost use Rattle.store.specs.Answers.{OutOfRangeUnless, FullUnless, RefusedUnless, Becomes};
+ghost use Rattle.store.specs.Contents.{Contents, Lawful, Takes, count_of};
 
-use crate::fault::StoreFault;
+use crate::fault::{OutOfRange, StoreFault};
 use crate::triple::Triple;
 
 pub mod any;
@@ -18,58 +19,39 @@ pub mod triple;
 
 // A set of triples, its members, with a size and a limit that never change.
 pub trait Store {
-    ghost holds: { Self → Triples };
+    ghost contents: { Self → Contents };
 
-    ghost size: { Self → ℕ };
-
-    ghost limit: { Self → ℕ };
-
-    // what is true of every store: size and limit are bounded, and the members keep within both
-    ghost small: { (s : Self) → size s ≤ 128 };
-
-    ghost bounded: { (s : Self) → limit s ≤ 524288 };
-
-    ghost ranged: { (s : Self) (h t r : ℕ) → holds s h t r ≡ true → InRange (size s) h t r };
-
-    ghost fits: { (s : Self) → members (size s) (holds s) ≤ limit s };
+    ghost lawful: { (s : Self) → Lawful (contents s) };
 
     fn size(&self) -> u8
-        ensures { result ≡ size self.now };
+        ensures { result ≡ (contents self.now).size };
 
     fn limit(&self) -> u32
-        ensures { result ≡ limit self.now };
+        ensures { result ≡ (contents self.now).limit };
 
     // A bit for each set of rights, which stands if the holder has a capability over the target with just these rights.
     fn word(&self, holder: u8, target: u8) -> u32
-        ensures bits { (r : ℕ) → bit result r ≡ holds self.now holder target r }
-        ensures outside { ((holder < size self.now) × (target < size self.now) → ⊥) → result ≡ 0 };
+        ensures bits { (r : ℕ) → bit result r ≡ (contents self.now).holds holder target r }
+        ensures outside { ((holder < (contents self.now).size) × (target < (contents self.now).size) → ⊥) → result ≡ 0 };
 
     // 0 if the store is full; otherwise some number that there is room for.
     fn spare(&self) -> u32
-        ensures full { (result ≡ 0) ↔ (members (size self.now) (holds self.now) ≡ limit self.now) }
-        ensures room { result + members (size self.now) (holds self.now) ≤ limit self.now };
+        ensures full { (result ≡ 0) ↔ (count_of (contents self.now) ≡ (contents self.now).limit) }
+        ensures room { result + count_of (contents self.now) ≤ (contents self.now).limit };
 
     // Makes the triple a member. A full store refuses one that is new.
     fn put(&mut self, triple: Triple) -> Result<(), StoreFault>
-        ensures range { OutOfRangeUnless (at triple (InRange (size self.old))) result }
-        ensures room { FullUnless (at triple (HasRoom (size self.old) (limit self.old) (holds self.old))) result }
-        ensures adds { Becomes result (at triple added) (holds self.old) (holds self.new) }
-        ensures size { size self.new ≡ size self.old }
-        ensures limit { limit self.new ≡ limit self.old };
+        ensures range { OutOfRangeUnless (at triple (InRange (contents self.old).size)) result }
+        ensures room { FullUnless (at triple (Takes (contents self.old))) result }
+        ensures adds { Becomes result (at triple added) (contents self.old) (contents self.new) };
 
     // Makes the triple no member, whether it was one or not.
-    fn take(&mut self, triple: Triple) -> Result<(), StoreFault>
-        ensures range { OutOfRangeUnless (at triple (InRange (size self.old))) result }
-        ensures room { NeverFull result }
-        ensures removes { Becomes result (at triple removed) (holds self.old) (holds self.new) }
-        ensures size { size self.new ≡ size self.old }
-        ensures limit { limit self.new ≡ limit self.old };
+    fn take(&mut self, triple: Triple) -> Result<(), OutOfRange>
+        ensures range { RefusedUnless (at triple (InRange (contents self.old).size)) result }
+        ensures removes { Becomes result (at triple removed) (contents self.old) (contents self.new) };
 
     // Leaves no member with this holder.
-    fn drop_holder(&mut self, holder: u8) -> Result<(), StoreFault>
-        ensures range { OutOfRangeUnless (holder < size self.old) result }
-        ensures room { NeverFull result }
-        ensures drops { Becomes result (dropped holder) (holds self.old) (holds self.new) }
-        ensures size { size self.new ≡ size self.old }
-        ensures limit { limit self.new ≡ limit self.old };
+    fn drop_holder(&mut self, holder: u8) -> Result<(), OutOfRange>
+        ensures range { RefusedUnless (holder < (contents self.old).size) result }
+        ensures drops { Becomes result (dropped holder) (contents self.old) (contents self.new) };
 }

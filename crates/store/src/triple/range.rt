@@ -1,6 +1,8 @@
 ghost use Rattle.std.specs.Prelude.{◌≡◌};
-ghost use Rattle.store.specs.Ranges.{at, inside};
+ghost use Rattle.store.specs.Answers.{RefusedUnless};
+ghost use Rattle.store.specs.Ranges.{at, inside, InRange};
 
+use crate::fault::OutOfRange;
 use crate::triple::Triple;
 use access::right::ALL_RIGHTS;
 
@@ -10,5 +12,16 @@ impl Triple {
         ensures { result ≡ at self (inside size) }
     {
         self.holder < size && self.target < size && self.rights <= ALL_RIGHTS
+    }
+
+    // Refuses a triple that no store of this size could hold.
+    pub fn check(self, size: u8) -> Result<(), OutOfRange>
+        ensures { RefusedUnless (at self (InRange size)) result }
+    {
+        if self.is_in_range(size) {
+            Ok(())
+        } else {
+            Err(OutOfRange)
+        }
     }
 }

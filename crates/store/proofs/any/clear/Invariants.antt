@@ -3,6 +3,6 @@ use Rattle.store.proofs.any.clear.Given as goal
 
 abbrev pub invariant-loop-holder : goal.invariant-loop-holder
 invariant-loop-holder g l =
-    (g.S.Store.size l.store ≡ g.S.Store.size l.initial.store)
-    × (g.S.Store.limit l.store ≡ g.S.Store.limit l.initial.store)
-    × ((h t r : ℕ) → h < l.holder → g.S.Store.holds l.store h t r ≡ false)
+    ((g.S.Store.contents l.store).size ≡ (g.S.Store.contents l.initial.store).size)
+    × ((g.S.Store.contents l.store).limit ≡ (g.S.Store.contents l.initial.store).limit)
+    × ((h t r : ℕ) → h < l.holder → (g.S.Store.contents l.store).holds h t r ≡ false)

@@ -1,23 +1,18 @@
-use Rattle.std.proofs.Common.{refl, arith}
-use lib.Count.{ones-le}
+use Rattle.std.proofs.Common.{◌^◌, ap, ◌∙◌, arith, rules, tests}
 use Rattle.access.specs.Rules.Sets.{over, total}
-use Rattle.access.proofs.Rules.Counting.{over_ones, total_more}
+use Rattle.store.proofs.Summing.{fits_below, held_few, sum_below}
 use Rattle.store.proofs.any.count_held.Goals as goal
 
-pub loop-target-init : goal.loop-target-init
-unfolding total
-loop-target-init g c = (refl, omega arith)
+pub sum-requires-clause-fits : goal.sum-requires-clause-fits
+sum-requires-clause-fits g c =
+    let store = g.S.Store.contents c.args.store.now in
+    let lawful = g.S.Store.lawful c.args.store.now in
+    let few = held_few store.size store.holds c.args.holder lawful.small in
+    fits_below (over store.holds c.args.holder) c.size.result (cc) c.map.ensures.closure (λ x r q k. search (rules, tests)) (2 ^ 32)
+    (omega (arith, few, ap (total (over store.holds c.args.holder)) c.size.ensures))
 
-pub overflow_add-count : goal.overflow_add-count
-overflow_add-count g c =
-    let small = g.S.Store.small c.args.store.now in
-    let (_, few) = c.loop-target.invariant in
-    omega (arith, ones-le 32 c.word.result (omega arith))
-
-pub loop-target-preserved : goal.loop-target-preserved
-loop-target-preserved g c =
-    let held = g.S.Store.holds c.args.store.now in
-    let (count, few) = c.loop-target.invariant in
-    let more = total_more (over held c.args.holder) c.loop-target.target in
-    let word = over_ones held c.args.holder c.loop-target.target c.word.result (omega arith) c.word.ensures.bits in
-    (omega arith, omega (arith, ones-le 32 c.word.result (omega arith)))
+pub returns : goal.returns
+returns g c =
+    let each = over (g.S.Store.contents c.args.store.now).holds c.args.holder in
+    sum_below each c.size.result (cc) c.map.ensures.closure (λ x r q k. search (rules, tests)) c.sum.result c.sum.ensures.ran
+    ∙ ap (total each) c.size.ensures

@@ -1,0 +1,21 @@
+use Rattle.std.proofs.Common.{◌^◌, ap, ◌∙◌, arith, rules, tests}
+use Rattle.access.specs.Rules.Sets.{held_by, members, total}
+use Rattle.store.proofs.Summing.{fits_below, sum_below}
+use Rattle.store.proofs.any.count.Goals as goal
+
+pub sum-requires-clause-fits : goal.sum-requires-clause-fits
+unfolding members
+sum-requires-clause-fits g c =
+    let store = g.S.Store.contents c.args.store.now in
+    let lawful = g.S.Store.lawful c.args.store.now in
+    let each = held_by store.size store.holds in
+    fits_below each c.size.result (cc) c.map.ensures.closure (λ x r q k. search (rules, tests)) (2 ^ 32)
+    (omega (arith, lawful.fits, lawful.bounded, ap (total each) c.size.ensures))
+
+pub returns : goal.returns
+unfolding members
+returns g c =
+    let store = g.S.Store.contents c.args.store.now in
+    let each = held_by store.size store.holds in
+    sum_below each c.size.result (cc) c.map.ensures.closure (λ x r q k. search (rules, tests)) c.sum.result c.sum.ensures.ran
+    ∙ ap (total each) c.size.ensures
