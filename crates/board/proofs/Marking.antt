@@ -1,28 +1,23 @@
 -- What the words of a board mark, and how a write changes that.
-use Rattle.std.proofs.Common.{◌≡◌, ℕ, zero, suc, ◌+◌, ◌*◌, ◌/◌, ◌%◌, ◌^◌, ◌<◌, ◌≤◌, Bool, true, false, not, ◌&&◌, ◌||◌, eqb, List, length, get_or, set, replicate, sym, refl, ap, ◌∙◌, ⊎_elim, arith}
-use Rattle.std.proofs.lemmas.Nat.{div-mul-add, mod-mul-add, mul-add-lt}
-use Rattle.std.proofs.lemmas.List.{get_or-set_same, get_or-set_other}
+use borrow.Rule.Slice.PartMut.{put_mid}
+use Rattle.std.proofs.Common.{◌≡◌, ℕ, ◌+◌, ◌-◌, ◌*◌, ◌^◌, ◌<◌, ◌≤◌, Bool, true, false, not, ◌&&◌, ◌||◌, eqb, List, length, get_or, take, drop, set, replicate, sym, refl, ap, ◌∙◌, subst, ⊎_elim, suc-mul, arith, rules, length-drop, length-take}
+use Rattle.std.proofs.lemmas.Nat.{mul-add-lt, mul-le, same_from_place}
+use Rattle.std.proofs.lemmas.List.{get_or-set_same, get_or-set_other, places}
 use Rattle.std.proofs.lemmas.Bool.{and_left, and_right, cases_eq, cases_lt, eq-eqb}
 use Rattle.std.proofs.lemmas.Bool.Decides.{nat_tests}
 use Rattle.access.specs.Rights.{bit}
 use Rattle.access.specs.Rules.Sets.{Triples, none, same, added, removed, dropped}
 use Rattle.access.proofs.Bits.{bit_past, bit_zero}
 use Rattle.access.proofs.Rules.Membership.{added_elsewhere, dropped_elsewhere, dropped_there, removed_elsewhere}
-use Rattle.store.specs.Contents.{Same}
-use Rattle.board.specs.Boards.{marked}
+use Rattle.store.specs.Contents.{NowHolds, Same}
+use Rattle.board.specs.declared.Board.{Board}
+use Rattle.board.specs.Boards.{contents_of, marked}
 use Rattle.store.specs.Ranges.{inside}
-
-blank_word : (n k : ℕ) → get_or {A = ℕ} (replicate n 0) k 0 ≡ 0
-blank_word zero k = refl
-blank_word (suc n) zero = refl
-blank_word (suc n) (suc k) = blank_word n k
 
 pub none_marked : (size n : ℕ) (words : List ℕ) → words ≡ replicate n 0 → Same (marked size words) none
 none_marked size n words blank h t r =
-    and_right (inside size h t r) _
-    (ap (λ (ws : List ℕ). bit (get_or ws (h * size + t) 0) r) blank
-    ∙ ap (λ (w : ℕ). bit w r) (blank_word n (h * size + t))
-    ∙ bit_zero r)
+    let word : get_or words (h * size + t) 0 ≡ 0 = ap (λ (ws : List ℕ). get_or ws (h * size + t) 0) blank ∙ search (rules, places) in
+    and_right (inside size h t r) _ (ap (λ (w : ℕ). bit w r) word ∙ bit_zero r)
 
 -- all bits of a word that is in range count
 pub marked_word : (size : ℕ) (words : List ℕ) (h t word r : ℕ) → h < size → t < size → word ≡ get_or words (h * size + t) 0
@@ -39,18 +34,17 @@ marked_word size words h t word r lh lt is small = ⊎_elim within past (cases_l
         let beyond : inside size h t r ≡ false = grind (arith, nat_tests) in
         bit_past 32 word r small above ∙ sym (and_left _ (bit (get_or words (h * size + t) 0) r) beyond)
 
--- what is marked depends on size and words alone
-pub marked_as : (size size' : ℕ) (words words' : List ℕ) → size' ≡ size → words' ≡ words
-    → Same (marked size' words') (marked size words)
-marked_as size size' words words' p q h t r =
-    ap (λ (n : ℕ). marked n words' h t r) p ∙ ap (λ (ws : List ℕ). marked size ws h t r) q
-
--- no two words lie in one place
-same_place : (size a b h t : ℕ) → b < size → t < size → h * size + t ≡ a * size + b → (h ≡ a) × (t ≡ b)
-same_place size a b h t lb lt e = (
-  sym (div-mul-add h size t lt) ∙ ap (λ (k : ℕ). k / size) e ∙ div-mul-add a size b lb,
-  sym (mod-mul-add h size t lt) ∙ ap (λ (k : ℕ). k % size) e ∙ mod-mul-add a size b lb,
-)
+-- a board of the same size, of whose words this is known
+pub now_holds : (old new : Board) (words : List ℕ) (members : Triples) → new.size ≡ old.size → new.words.now ≡ words
+    → Same (marked old.size words) members → NowHolds (contents_of old) (contents_of new) members
+now_holds old new words members size written holds = record {
+  size = size;
+  limit = ap (λ (n : ℕ). n * n * 32) size;
+  holds = λ h t r.
+      ap (λ (n : ℕ). marked n new.words.now h t r) size
+      ∙ ap (λ (ws : List ℕ). marked old.size ws h t r) written
+      ∙ holds h t r;
+}
 
 -- in one word triples differ by their rights alone
 same_beside : (a b k r : ℕ) → same a b k a b r ≡ eqb r k
@@ -78,7 +72,7 @@ module _ (size : ℕ) (words : List ℕ) (whole : size * size ≤ length words) 
       within : t < size → marked size (set words place word) h t r ≡ marked size words h t r
       within lt =
           ap (λ (w : ℕ). inside size h t r && bit w r)
-          (get_or-set_other words place (h * size + t) word 0 (λ e. other (same_place size a b h t lb lt e)))
+          (get_or-set_other words place (h * size + t) word 0 (λ e. other (same_from_place h t a b size lt lb e)))
 
       beyond : size ≤ t → marked size (set words place word) h t r ≡ marked size words h t r
       beyond le =
@@ -135,33 +129,53 @@ module _ (size : ℕ) (words : List ℕ) (whole : size * size ≤ length words) 
           ∙ sym (and_assoc (inside size a b r) _ _)
           ∙ sym (ap (λ (x : Bool). marked size words a b r && not x) (same_beside a b rights r))
 
-  -- one word of a row more is cleared
-  pub cleared_more : ((t r : ℕ) → t < b → marked size words a t r ≡ false)
-      → (t r : ℕ) → t < b + 1 → marked size (set words place 0) a t r ≡ false
-  cleared_more so_far t r below = ⊎_elim here before (cases_eq t b)
-    where
-      here : t ≡ b → marked size (set words place 0) a t r ≡ false
-      here e =
-          ap (λ (t : ℕ). marked size (set words place 0) a t r) e
-          ∙ written_there 0 r
-          ∙ and_right (inside size a b r) _ (bit_zero r)
-
-      before : (t ≡ b → ⊥) → marked size (set words place 0) a t r ≡ false
-      before e = written_elsewhere 0 a t r (λ (_, is). e is) ∙ so_far t r (omega arith)
-
 -- the words of one holder are cleared
-pub row_cleared : (size : ℕ) (words : List ℕ) (before : Triples) (a : ℕ)
-    → ((t r : ℕ) → t < size → marked size words a t r ≡ false)
-    → ((h t r : ℕ) → (h ≡ a → ⊥) → marked size words h t r ≡ before h t r)
-    → Same (marked size words) (dropped a before)
-row_cleared size words before a gone others h t r =
-    ⊎_elim here (λ e. others h t r e ∙ sym (dropped_elsewhere a before h t r e)) (cases_eq h a)
-  where
-    none_past : (t r : ℕ) → marked size words a t r ≡ false
-    none_past t r = ⊎_elim (gone t r) (λ le. and_left (inside size a t r) _ (grind (arith, nat_tests))) (cases_lt t size)
+module _ (size : ℕ) (words : List ℕ) (whole : size * size ≤ length words) (a row : ℕ) (la : a < size) (begins : row ≡ a * size) where
+  abbrev cleared : List ℕ
+  cleared = put_mid row (row + size - row) words (replicate (row + size - row) 0)
 
-    here : h ≡ a → marked size words h t r ≡ dropped a before h t r
-    here e =
-        ap (λ (h : ℕ). marked size words h t r) e
-        ∙ none_past t r
-        ∙ sym (ap (λ (h : ℕ). dropped a before h t r) e ∙ dropped_there a before t r)
+  within : row + size ≤ length words
+  within = omega (arith, mul-le (a + 1) size size size (omega arith) (omega arith), suc-mul a size)
+
+  row_in : (t : ℕ) → t < size → get_or cleared (a * size + t) 0 ≡ 0
+  row_in t lt = search (rules, places)
+
+  row_out : (h t : ℕ) → t < size → (h ≡ a → ⊥) → get_or cleared (h * size + t) 0 ≡ get_or words (h * size + t) 0
+  row_out h t lt other = ⊎_elim before behind (cases_lt h a)
+    where
+      before : h < a → get_or cleared (h * size + t) 0 ≡ get_or words (h * size + t) 0
+      before less =
+          let above : h * size + size ≤ row = omega (arith, mul-le (h + 1) size a size (omega arith) (omega arith), suc-mul h size) in
+          search (rules, places)
+
+      behind : a ≤ h → get_or cleared (h * size + t) 0 ≡ get_or words (h * size + t) 0
+      behind more =
+          let below : row + size ≤ h * size = omega (arith, mul-le (a + 1) size h size (omega arith) (omega arith), suc-mul a size) in
+          search (rules, places)
+
+  all_cleared : Same (marked size cleared) (dropped a (marked size words))
+  all_cleared h t r = ⊎_elim inner (λ le. beyond le) (cases_lt t size)
+    where
+      beyond : size ≤ t → marked size cleared h t r ≡ dropped a (marked size words) h t r
+      beyond le =
+          let out : inside size h t r ≡ false = grind (arith, nat_tests) in
+          and_left _ _ out ∙ sym (and_left _ _ (and_left _ _ out))
+
+      inner : t < size → marked size cleared h t r ≡ dropped a (marked size words) h t r
+      inner lt = ⊎_elim here elsewhere (cases_eq h a)
+        where
+          here : h ≡ a → marked size cleared h t r ≡ dropped a (marked size words) h t r
+          here e =
+              let word : get_or cleared (h * size + t) 0 ≡ 0 = ap (λ (k : ℕ). get_or cleared (k * size + t) 0) e ∙ row_in t lt in
+              and_right _ _ (ap (λ (w : ℕ). bit w r) word ∙ bit_zero r) ∙ sym (ap (λ (k : ℕ). dropped a (marked size words) k t r) e ∙ dropped_there a (marked size words) t r)
+
+          elsewhere : (h ≡ a → ⊥) → marked size cleared h t r ≡ dropped a (marked size words) h t r
+          elsewhere e =
+              ap (λ (w : ℕ). inside size h t r && bit w r) (row_out h t lt e) ∙ sym (dropped_elsewhere a (marked size words) h t r e)
+
+  pub row_cleared : (zeros : List ℕ) → zeros ≡ replicate (length (take (row + size - row) (drop row words))) 0
+      → Same (marked size (put_mid row (row + size - row) words zeros)) (dropped a (marked size words))
+  row_cleared zeros blank =
+      let long : length (take (row + size - row) (drop row words)) ≡ row + size - row = omega (arith, within, length-take (row + size - row) (drop row words), length-drop row words) in
+      subst (λ (zs : List ℕ). Same (marked size (put_mid row (row + size - row) words zs)) (dropped a (marked size words)))
+      (sym (blank ∙ ap (λ (n : ℕ). replicate n 0) long)) all_cleared

@@ -1,20 +1,21 @@
 -- When a board is full.
-use Rattle.std.proofs.Common.{◌≡◌, ℕ, zero, suc, ◌+◌, ◌*◌, ◌/◌, ◌%◌, ◌^◌, ◌<◌, true, false, List, get_or, ap, ◌∙◌, inl, inr, ⊎_elim, arith}
+use Rattle.std.proofs.Common.{◌≡◌, ℕ, zero, suc, ◌+◌, ◌-◌, ◌*◌, ◌/◌, ◌%◌, ◌<◌, ◌≤◌, Bool, true, false, List, length, get_or, take, ap, subst, ◌∙◌, inl, inr, ⊎_elim, arith, length-take}
 use Rattle.std.proofs.lemmas.Nat.{div-add-mod', div_below, mod_below, mul-add-lt}
 use Rattle.std.proofs.lemmas.Bool.{and_from, and_right, cases_Bool}
 use Rattle.std.proofs.lemmas.Bool.Decides.{nat_tests}
+use Rattle.std.specs.List.{AllWithin, HoldsAt}
+use Rattle.std.specs.Bool.{MatchBool}
+use Rattle.std.proofs.lemmas.List.{get_or-take}
 use Rattle.access.specs.Rights.{bit}
 use Rattle.access.specs.Rules.Sets.{added, members, HasRoom}
-use Rattle.access.proofs.Bits.{bit_largest, missing_bit}
 use Rattle.access.proofs.Rules.Counting.{Counts, members_added, members_all, members_le}
-use Rattle.board.specs.Boards.{marked}
+use Rattle.board.specs.Boards.{marked, AllBits, MissingBit}
 use Rattle.store.specs.Ranges.{InRange, inside}
 
--- a word that is not all ones leaves room
-pub room_left : (size : ℕ) (words : List ℕ) (k : ℕ) → k < size * size → get_or words k 0 < 2 ^ 32
-    → (get_or words k 0 ≡ 4294967295 → ⊥) → members size (marked size words) < size * size * 32
-room_left size words k below small missing =
-    let (r, lr, clear) = missing_bit 32 (get_or words k 0) small missing in
+-- a word that lacks a bit leaves room
+room_left : (size : ℕ) (words : List ℕ) (k : ℕ) → k < size * size → MissingBit (get_or words k 0)
+    → members size (marked size words) < size * size * 32
+room_left size words k below (r, lr, clear) =
     let some : 0 < size = positive size below in
     let lh : k / size < size = div_below k size size some below in
     let lt : k % size < size = mod_below k size some in
@@ -31,16 +32,29 @@ room_left size words k below small missing =
     positive zero l = absurd (omega arith)
     positive (suc n) l = omega arith
 
--- words that are all ones leave none
-pub no_room : (size : ℕ) (words : List ℕ) → ((k : ℕ) → k < size * size → get_or words k 0 ≡ 4294967295)
+-- words that have all bits leave none
+no_room : (size : ℕ) (words : List ℕ) → ((k : ℕ) → k < size * size → AllBits (get_or words k 0))
     → members size (marked size words) ≡ size * size * 32
-no_room size words ones = members_all size (marked size words) stands
+no_room size words full = members_all size (marked size words) stands
   where
     stands : (h t r : ℕ) → Counts size h t r → marked size words h t r ≡ true
     stands h t r (lh, lt, lr) =
         let place : h * size + t < size * size = omega (arith, mul-add-lt h size t size lh lt) in
         let ranged : inside size h t r ≡ true = grind (arith, nat_tests) in
-        and_from _ _ ranged (ap (λ (w : ℕ). bit w r) (ones (h * size + t) place) ∙ bit_largest 32 r lr)
+        and_from _ _ ranged (full (h * size + t) place r lr)
+
+-- all words have all bits, or one does not
+module _ (size : ℕ) (words : List ℕ) (whole : size * size ≤ length words) where
+  abbrev used : List ℕ
+  used = take (size * size - 0) words
+
+  pub full_or_room : (full : Bool) → MatchBool full (AllWithin AllBits used 0 (length used)) ((k : ℕ) × (k < length used) × HoldsAt MissingBit used k)
+      → MatchBool full (members size (marked size words) ≡ size * size * 32) (members size (marked size words) < size * size * 32)
+  full_or_room true full = no_room size words (λ k below.
+      subst AllBits (get_or-take (size * size - 0) words k 0 (omega arith)) (full k 0 (omega arith) (omega (arith, length-take (size * size - 0) words))))
+  full_or_room false (k, below, missing) =
+      let inside : k < size * size = omega (arith, length-take (size * size - 0) words) in
+      room_left size words k inside (subst MissingBit (get_or-take (size * size - 0) words k 0 (omega arith)) (missing 0))
 
 -- a board is full only where it has every triple in range
 pub room_for : (size : ℕ) (words : List ℕ) (h t r : ℕ) → InRange size h t r

@@ -1,26 +1,29 @@
 -- What a board means.
-use Rattle.std.specs.Prelude.{◌≡◌, ℕ, ◌+◌, ◌*◌, ◌≤◌, ◌&&◌, List, slice_index}
+use Rattle.std.specs.Prelude.{◌≡◌, ℕ, ◌+◌, ◌*◌, ◌<◌, ◌≤◌, true, false, ◌&&◌, List, slice_index}
 use Rattle.access.specs.Rights.{bit}
-use Rattle.access.specs.Rules.Sets.{Triples, members}
+use Rattle.access.specs.Rules.Sets.{Triples}
 use Rattle.board.specs.declared.Board.{Board}
+use Rattle.store.specs.Contents.{Contents}
 use Rattle.store.specs.Ranges.{inside}
+
+-- where the word of a holder and a target lies
+abbrev pub place_of : ℕ → ℕ → ℕ → ℕ
+place_of size h t = h * size + t
 
 -- the triples in range whose bit stands in the word of their row and column
 abbrev pub marked : ℕ → List ℕ → Triples
-marked size words h t r = inside size h t r && bit (slice_index words (h * size + t)) r
+marked size words h t r = inside size h t r && bit (slice_index words (place_of size h t)) r
 
-abbrev pub size_of : Board → ℕ
-size_of board = board.size
+-- what tells a full word from one that has room
+abbrev pub AllBits : ℕ → Type 0
+AllBits word = (r : ℕ) → r < 32 → bit word r ≡ true
 
-abbrev pub limit_of : Board → ℕ
-limit_of board = board.size * board.size * 32
+abbrev pub MissingBit : ℕ → Type 0
+MissingBit word = (r : ℕ) × (r < 32) × (bit word r ≡ false)
 
-abbrev pub member_of : Board → Triples
-member_of board = marked board.size board.words.now
-
--- how many members it has
-abbrev pub count_of : Board → ℕ
-count_of board = members board.size (member_of board)
+abbrev pub contents_of : Board → Contents
+contents_of board =
+    record { size = board.size; limit = board.size * board.size * 32; holds = marked board.size board.words.now }
 
 -- a size that a store can have, and as many words as a board of that size wants
 abbrev pub Suits : ℕ → ℕ → Type 0

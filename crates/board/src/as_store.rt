@@ -1,27 +1,17 @@
 // A board is a store.
-ghost use Rattle.board.specs.Boards.{size_of, limit_of, member_of};
-ghost use Rattle.board.specs.Facts.{marked_ranged, marked_fits, limit_bounded};
+ghost use Rattle.board.specs.Boards.{contents_of};
+ghost use Rattle.board.specs.Facts.{marked_lawful};
 
 use crate::Board;
 use access::word;
 use store::Store;
-use store::fault::StoreFault;
+use store::fault::{OutOfRange, StoreFault};
 use store::triple::Triple;
 
 impl<'a> Store for Board<'a> {
-    ghost holds = { member_of };
+    ghost contents = { contents_of };
 
-    ghost size = { size_of };
-
-    ghost limit = { limit_of };
-
-    ghost small = { λ b. b.small };
-
-    ghost bounded = { λ b. limit_bounded b.size b.small };
-
-    ghost ranged = { λ b. marked_ranged b.size b.words.now };
-
-    ghost fits = { λ b. marked_fits b.size b.words.now };
+    ghost lawful = { λ b. marked_lawful b.size b.words.now b.small };
 
     fn size(&self) -> u8 {
         self.size
@@ -32,10 +22,10 @@ impl<'a> Store for Board<'a> {
     }
 
     fn word(&self, holder: u8, target: u8) -> u32 {
-        if !self.has_word(holder, target) {
+        if holder >= self.size || target >= self.size {
             return 0;
         }
-        self.get(holder, target)
+        self.words[self.place(holder, target)]
     }
 
     fn spare(&self) -> u32 {
@@ -43,36 +33,21 @@ impl<'a> Store for Board<'a> {
     }
 
     fn put(&mut self, triple: Triple) -> Result<(), StoreFault> {
-        if !triple.is_in_range(self.size) {
-            return Err(StoreFault::OutOfRange);
-        }
-        let word = self.get(triple.holder, triple.target);
-        self.set(
-            triple.holder,
-            triple.target,
-            word::with(word, triple.rights),
-        );
+        self.change(triple, word::with)?;
         Ok(())
     }
 
-    fn take(&mut self, triple: Triple) -> Result<(), StoreFault> {
-        if !triple.is_in_range(self.size) {
-            return Err(StoreFault::OutOfRange);
-        }
-        let word = self.get(triple.holder, triple.target);
-        self.set(
-            triple.holder,
-            triple.target,
-            word::without(word, triple.rights),
-        );
+    fn take(&mut self, triple: Triple) -> Result<(), OutOfRange> {
+        self.change(triple, word::without)?;
         Ok(())
     }
 
-    fn drop_holder(&mut self, holder: u8) -> Result<(), StoreFault> {
+    fn drop_holder(&mut self, holder: u8) -> Result<(), OutOfRange> {
         if holder >= self.size {
-            return Err(StoreFault::OutOfRange);
+            return Err(OutOfRange);
         }
-        self.clear_row(holder);
+        let row = self.place(holder, 0);
+        self.words[row..row + self.size as usize].fill(0);
         Ok(())
     }
 }

@@ -1,26 +1,18 @@
-use Rattle.std.proofs.Common.{ℕ, ◌+◌, ◌*◌, ◌||◌, eqb, set, ap, ◌∙◌, arith, rules}
-use Rattle.access.specs.Rights.{bit}
-use Rattle.store.specs.Ranges.{inside_ranged}
-use Rattle.board.proofs.Marking.{marked_as, marked_put}
+use Rattle.std.proofs.Common.{arith}
+use Rattle.board.proofs.Marking.{marked_put, now_holds}
 use Rattle.board.proofs.Room.{room_for}
 use Rattle.board.proofs.as_store.BoardStore.put.Goals as goal
 
-pub returns : goal.returns
-returns c =
+pub returns-clause-room : goal.returns-clause-room
+returns-clause-room c =
     let board = c.args.self.now in
-    let holder = c.args.triple.holder in
-    let target = c.args.triple.target in
-    let rights = c.args.triple.rights in
-    let ranged = inside_ranged board.size holder target rights (search rules) in
-    let (lh, lt, lr) = ranged in
-    record {
-      range = ranged;
-      room = room_for board.size board.words.now holder target rights ranged;
-      adds = λ h t r.
-          marked_as board.size _ (set board.words.now (holder * board.size + target) c.with.result) _
-          c.set.ensures.size c.set.ensures.words h t r
-          ∙ marked_put board.size board.words.now board.whole holder target lh lt rights c.with.result lr
-          (λ r. c.with.ensures.stands (omega arith) r ∙ ap (λ (w : ℕ). eqb r rights || bit w r) c.get-word.ensures) h t r;
-      size = c.set.ensures.size;
-      limit = ap (λ (n : ℕ). n * n * 32) c.set.ensures.size;
-    }
+    room_for board.size board.words.now c.args.triple.holder c.args.triple.target c.args.triple.rights c.in_ok-change.ensures.range
+
+pub returns-clause-adds : goal.returns-clause-adds
+returns-clause-adds c =
+    let board = c.args.self.now in
+    let triple = c.args.triple in
+    let (lh, lt, lr) = c.in_ok-change.ensures.range in
+    let (word, (stands, _), written) = c.in_ok-change.ensures.changes in
+    now_holds board c.change.new.self _ _ c.change.ensures.size written
+    (marked_put board.size board.words.now board.whole triple.holder triple.target lh lt triple.rights word lr (stands (omega arith)))

@@ -1,25 +1,12 @@
-use Rattle.std.proofs.Common.{ℕ, ◌+◌, ◌*◌, not, ◌&&◌, eqb, set, ap, ◌∙◌, arith, rules}
-use Rattle.access.specs.Rights.{bit}
-use Rattle.store.specs.Ranges.{inside_ranged}
-use Rattle.board.proofs.Marking.{marked_as, marked_taken}
+use Rattle.std.proofs.Common.{arith}
+use Rattle.board.proofs.Marking.{marked_taken, now_holds}
 use Rattle.board.proofs.as_store.BoardStore.take.Goals as goal
 
-pub returns : goal.returns
-returns c =
+pub returns-clause-removes : goal.returns-clause-removes
+returns-clause-removes c =
     let board = c.args.self.now in
-    let holder = c.args.triple.holder in
-    let target = c.args.triple.target in
-    let rights = c.args.triple.rights in
-    let ranged = inside_ranged board.size holder target rights (search rules) in
-    let (lh, lt, lr) = ranged in
-    record {
-      range = ranged;
-      room = tt;
-      removes = λ h t r.
-          marked_as board.size _ (set board.words.now (holder * board.size + target) c.without.result) _
-          c.set.ensures.size c.set.ensures.words h t r
-          ∙ marked_taken board.size board.words.now board.whole holder target lh lt rights c.without.result
-          (λ r. c.without.ensures.clear (omega arith) r ∙ ap (λ (w : ℕ). bit w r && not (eqb r rights)) c.get-word.ensures) h t r;
-      size = c.set.ensures.size;
-      limit = ap (λ (n : ℕ). n * n * 32) c.set.ensures.size;
-    }
+    let triple = c.args.triple in
+    let (lh, lt, lr) = c.in_ok-change.ensures.range in
+    let (word, (clear, _), written) = c.in_ok-change.ensures.changes in
+    now_holds board c.change.new.self _ _ c.change.ensures.size written
+    (marked_taken board.size board.words.now board.whole triple.holder triple.target lh lt triple.rights word (clear (omega arith)))
