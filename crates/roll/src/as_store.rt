@@ -1,27 +1,16 @@
 // A roll is a store.
-ghost use Rattle.std.specs.Prelude.{take};
-ghost use Rattle.roll.specs.Facts.{limit_bounded, listed_fits, listed_ranged};
-ghost use Rattle.roll.specs.Rolls.{size_of, limit_of, member_of};
+ghost use Rattle.roll.specs.Facts.{listed_lawful};
+ghost use Rattle.roll.specs.Rolls.{contents_of};
 
 use crate::{Roll, list};
 use store::Store;
-use store::fault::StoreFault;
+use store::fault::{OutOfRange, StoreFault};
 use store::triple::Triple;
 
 impl<'a> Store for Roll<'a> {
-    ghost holds = { member_of };
+    ghost contents = { contents_of };
 
-    ghost size = { size_of };
-
-    ghost limit = { limit_of };
-
-    ghost small = { λ s. s.small };
-
-    ghost bounded = { λ s. limit_bounded s.limit s.short };
-
-    ghost ranged = { λ s. listed_ranged s.size (take s.len s.records.now) s.apart };
-
-    ghost fits = { λ s. listed_fits s.size s.len s.limit s.records.now s.within };
+    ghost lawful = { λ s. listed_lawful s.size s.len s.limit s.records.now s.small s.short s.within s.apart };
 
     fn size(&self) -> u8 {
         self.size
@@ -32,7 +21,7 @@ impl<'a> Store for Roll<'a> {
     }
 
     fn word(&self, holder: u8, target: u8) -> u32 {
-        list::word_of(&self.records[0..self.len], holder, target)
+        list::word_of(self.used(), holder, target)
     }
 
     fn spare(&self) -> u32 {
@@ -40,9 +29,7 @@ impl<'a> Store for Roll<'a> {
     }
 
     fn put(&mut self, triple: Triple) -> Result<(), StoreFault> {
-        if !triple.is_in_range(self.size) {
-            return Err(StoreFault::OutOfRange);
-        }
+        triple.check(self.size)?;
         if self.has(triple) {
             return Ok(());
         }
@@ -53,19 +40,17 @@ impl<'a> Store for Roll<'a> {
         Ok(())
     }
 
-    fn take(&mut self, triple: Triple) -> Result<(), StoreFault> {
-        if !triple.is_in_range(self.size) {
-            return Err(StoreFault::OutOfRange);
-        }
+    fn take(&mut self, triple: Triple) -> Result<(), OutOfRange> {
+        triple.check(self.size)?;
         if let Some(place) = self.find(triple) {
             self.free(place);
         }
         Ok(())
     }
 
-    fn drop_holder(&mut self, holder: u8) -> Result<(), StoreFault> {
+    fn drop_holder(&mut self, holder: u8) -> Result<(), OutOfRange> {
         if holder >= self.size {
-            return Err(StoreFault::OutOfRange);
+            return Err(OutOfRange);
         }
         self.free_all(holder);
         Ok(())

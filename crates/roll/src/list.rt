@@ -1,9 +1,7 @@
 // Lists of triples.
-ghost use Rattle.std.specs.Prelude.{◌≡◌, ℕ, ◌<◌, ◌||◌, length, slice_index_or};
+ghost use Rattle.std.specs.Prelude.{◌≡◌, ℕ, ◌<◌, ◌&&◌, ◌==◌, length, slice_index_or};
 ghost use Rattle.access.specs.Rights.{bit};
-ghost use Rattle.access.specs.Rules.Sets.{same};
 ghost use Rattle.roll.specs.Lists.{listed, Found, blank};
-ghost use Rattle.store.specs.Ranges.{at};
 
 use access::word;
 use store::triple::Triple;
@@ -12,12 +10,7 @@ use store::triple::Triple;
 pub(super) fn place_of(list: &[Triple], triple: Triple) -> Option<usize>
     ensures { Found list.now triple result }
 {
-    for (place, member) in list.iter().enumerate() {
-        if *member == triple {
-            return Some(place);
-        }
-    }
-    None
+    list.iter().position(|member| *member == triple)
 }
 
 // A bit for each set of rights that the holder has over the target.
@@ -25,20 +18,13 @@ pub(super) fn word_of(list: &[Triple], holder: u8, target: u8) -> u32
     requires { (i : ℕ) → i < length list.now → (slice_index_or list.now i blank).rights < 32 }
     ensures { (r : ℕ) → bit result r ≡ listed list.now holder target r }
 {
-    let mut word = 0;
-    for member in list {
-        word = with_member(word, *member, holder, target);
-    }
-    word
+    list.iter()
+        .filter(|member| is_over(member, holder, target))
+        .fold(0, |word, member| word::with(word, member.rights))
 }
 
-// The word with this one's bit, if it is of that holder and target.
-fn with_member(word: u32, member: Triple, holder: u8, target: u8) -> u32
-    requires { member.rights < 32 }
-    ensures { (r : ℕ) → bit result r ≡ (at member same holder target r || bit word r) }
+fn is_over(member: &Triple, holder: u8, target: u8) -> bool
+    ensures { result ≡ (holder == member.now.holder && target == member.now.target) }
 {
-    if member.holder != holder || member.target != target {
-        return word;
-    }
-    word::with(word, member.rights)
+    member.holder == holder && member.target == target
 }

@@ -1,24 +1,31 @@
 // The records of a roll. That no triple stands twice among those in use is kept here.
 ghost use Rattle.std.specs.Prelude.{◌≡◌, ◌<◌, false, slice_index_or};
 ghost use Rattle.access.specs.Rules.Sets.{added, removed, dropped};
-ghost use Rattle.store.specs.Answers.{Same};
-ghost use Rattle.roll.specs.Lists.{Found, blank};
+ghost use Rattle.store.specs.Contents.{NowHolds};
+ghost use Rattle.roll.specs.Lists.{listed, Found, blank};
 ghost use Rattle.store.specs.Ranges.{at, InRange};
-ghost use Rattle.roll.specs.Rolls.{size_of, limit_of, member_of, used};
+ghost use Rattle.roll.specs.Rolls.{contents_of, used};
 
 use crate::{Roll, list};
 use store::triple::Triple;
 
 impl Roll<'_> {
+    // The records in use.
+    pub(super) fn used(&self) -> &[Triple]
+        ensures { result.now ≡ used self.now }
+    {
+        &self.records[..self.len]
+    }
+
     // Where the triple stands.
     pub(super) fn find(&self, triple: Triple) -> Option<usize>
         ensures { Found (used self.now) triple result }
     {
-        list::place_of(&self.records[0..self.len], triple)
+        list::place_of(self.used(), triple)
     }
 
     pub(super) fn has(&self, triple: Triple) -> bool
-        ensures { result ≡ at triple (member_of self.now) }
+        ensures { result ≡ at triple (listed (used self.now)) }
     {
         self.find(triple).is_some()
     }
@@ -26,11 +33,9 @@ impl Roll<'_> {
     // Writes the triple into the first free record.
     pub(super) fn push(&mut self, triple: Triple)
         requires room { self.old.len < self.old.limit }
-        requires range { at triple (InRange (size_of self.old)) }
-        requires new { at triple (member_of self.old) ≡ false }
-        ensures adds { Same (member_of self.new) (at triple added (member_of self.old)) }
-        ensures size { size_of self.new ≡ size_of self.old }
-        ensures limit { limit_of self.new ≡ limit_of self.old }
+        requires range { at triple (InRange self.old.size) }
+        requires new { at triple (listed (used self.old)) ≡ false }
+        ensures { NowHolds (contents_of self.old) (contents_of self.new) (at triple added (listed (used self.old))) }
     {
         self.records[self.len] = triple;
         self.len += 1;
@@ -39,20 +44,16 @@ impl Roll<'_> {
     // Frees a record. The last one in use takes its place.
     pub(super) fn free(&mut self, place: usize)
         requires { place < self.old.len }
-        ensures removes { Same (member_of self.new) (at (slice_index_or (used self.old) place blank) removed (member_of self.old)) }
-        ensures size { size_of self.new ≡ size_of self.old }
-        ensures limit { limit_of self.new ≡ limit_of self.old }
+        ensures { NowHolds (contents_of self.old) (contents_of self.new) (at (slice_index_or (used self.old) place blank) removed (listed (used self.old))) }
     {
         let last = self.len - 1;
         self.records[place] = self.records[last];
         self.len = last;
     }
 
-    // Frees all records of the holder. The others move up.
+    // Frees all records of the holder. The others move up. (A slice has no `retain`, and the memory is the caller's.)
     pub(super) fn free_all(&mut self, holder: u8)
-        ensures drops { Same (member_of self.new) (dropped holder (member_of self.old)) }
-        ensures size { size_of self.new ≡ size_of self.old }
-        ensures limit { limit_of self.new ≡ limit_of self.old }
+        ensures { NowHolds (contents_of self.old) (contents_of self.new) (dropped holder (listed (used self.old))) }
     {
         let len = self.len;
         self.len = 0;

@@ -12,7 +12,7 @@ pub returns : goal.returns
 returns c =
     let roll = c.args.self.now in
     record {
-      removes = listed_left roll.size roll.records.now roll.len c.args.place (omega arith) c.requires roll.apart;
       size = refl;
       limit = refl;
+      holds = listed_left roll.size roll.records.now roll.len c.args.place (omega arith) c.requires roll.apart;
     }

@@ -43,7 +43,7 @@ returns c =
     let roll = c.loop-place.self in
     let (size, limit, moving) = c.loop-place.invariant in
     record {
-      drops = listed_moved c.args.holder old.len c.loop-place.place roll.len old.records.now roll.records.now (omega arith) moving;
       size = size;
       limit = limit;
+      holds = listed_moved c.args.holder old.len c.loop-place.place roll.len old.records.now roll.records.now (omega arith) moving;
     }

@@ -13,8 +13,4 @@ invariant_of-self c =
 pub returns : goal.returns
 returns c =
     let roll = c.args.self.now in
-    record {
-      adds = listed_pushed roll.records.now roll.len c.args.triple (omega arith);
-      size = refl;
-      limit = refl;
-    }
+    record { size = refl; limit = refl; holds = listed_pushed roll.records.now roll.len c.args.triple (omega arith) }

@@ -1,5 +1,7 @@
-use Rattle.std.proofs.Common.{◌≡◌, ℕ, ◌-◌, ◌<◌, length, get_or, take, sym, ap, ◌∙◌, subst, arith}
+use Rattle.std.proofs.Common.{ℕ, length, get_or, sym, ap, ◌∙◌, ◌<◌, subst, arith, List}
+use Rattle.store.specs.declared.triple.Triple.{Triple}
 use Rattle.roll.specs.Lists.{listed, blank}
+use Rattle.roll.specs.Rolls.{used}
 use Rattle.roll.proofs.Apartness.{apart_at, listed_outside}
 use Rattle.access.proofs.WordBits.{no_bits}
 use Rattle.roll.proofs.as_store.RollStore.word.Goals as goal
@@ -7,17 +9,13 @@ use Rattle.roll.proofs.as_store.RollStore.word.Goals as goal
 pub word_of-requires : goal.word_of-requires
 word_of-requires c =
     let roll = c.args.self.now in
-    let all : roll.len - 0 ≡ roll.len = omega arith in
-    subst (λ (n : ℕ). (i : ℕ) → i < length (take n roll.records.now) → (get_or (take n roll.records.now) i blank).rights < 32) (sym all)
-    (λ i below. let (_, _, rights) = apart_at roll.size (take roll.len roll.records.now) i roll.apart below in omega arith)
+    subst (λ (l : List Triple). (i : ℕ) → i < length l → (get_or l i blank).rights < 32) (sym c.used.ensures)
+    (λ i below. let (_, _, rights) = apart_at roll.size (used roll) i roll.apart below in omega arith)
 
-pub returns : goal.returns
-returns c =
+pub returns-clause-outside : goal.returns-clause-outside
+returns-clause-outside c out =
     let roll = c.args.self.now in
-    let all : roll.len - 0 ≡ roll.len = omega arith in
-    let bits = λ (r : ℕ). c.word_of.ensures r ∙ ap (λ (n : ℕ). listed (take n roll.records.now) c.args.holder c.args.target r) all in
-    record {
-      bits = bits;
-      outside = λ out. no_bits c.word_of.result (omega arith)
-          (λ r. bits r ∙ listed_outside roll.size (take roll.len roll.records.now) roll.apart c.args.holder c.args.target r out);
-    }
+    no_bits c.word_of.result (omega arith)
+    (λ r. c.word_of.ensures r
+    ∙ ap (λ (l : List Triple). listed l c.args.holder c.args.target r) c.used.ensures
+    ∙ listed_outside roll.size (used roll) roll.apart c.args.holder c.args.target r out)
