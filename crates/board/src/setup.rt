@@ -7,13 +7,14 @@ ghost use Rattle.board.specs.Boards.{contents_of, Suits};
 
 use crate::Board;
 use store::fault::OutOfRange;
+use store::size::is_size;
 
 impl<'a> Board<'a> {
     // Can there be a board of this size in this memory?
     pub fn check(size: u8, words: &[u32]) -> Result<(), OutOfRange>
         ensures { RefusedUnless (Suits size (length words.now)) result }
     {
-        if size == 0 || size > 128 || words.len() != size as usize * size as usize {
+        if !is_size(size) || words.len() != size as usize * size as usize {
             return Err(OutOfRange);
         }
         Ok(())

@@ -1,6 +1,6 @@
 // The words of a board, one by one.
-ghost use Rattle.std.specs.Prelude.{◌≡◌, ℕ, ◌*◌, ◌<◌, MatchBool, IfOk, IfErr, slice_index, slice_set};
-ghost use Rattle.board.specs.Boards.{contents_of, place_of, AllBits, MissingBit};
+ghost use Rattle.std.specs.Prelude.{◌≡◌, ℕ, ◌*◌, ◌<◌, MatchBool, IfOk, IfErr};
+ghost use Rattle.board.specs.Boards.{contents_of, place_of, word_of, with_word, AllBits, MissingBit};
 ghost use Rattle.store.specs.Answers.{RefusedUnless};
 ghost use Rattle.store.specs.Contents.{count_of};
 ghost use Rattle.store.specs.Ranges.{at, InRange};
@@ -27,7 +27,7 @@ impl Board<'_> {
     ) -> Result<(), OutOfRange>
         requires { F.IsAlwaysCallable change }
         ensures range { RefusedUnless (at triple (InRange self.old.size)) result }
-        ensures changes { IfOk result (λ _. (word : ℕ) × F.post change (slice_index self.old.words.now (place_of self.old.size triple.holder triple.target)) triple.rights word × (self.new.words.now ≡ slice_set self.old.words.now (place_of self.old.size triple.holder triple.target) word)) }
+        ensures changes { IfOk result (λ _. (word : ℕ) × F.post change (word_of self.old triple) triple.rights word × (self.new.words.now ≡ with_word self.old triple word)) }
         ensures keeps { IfErr result (λ _. self.new.words.now ≡ self.old.words.now) }
         ensures size { self.new.size ≡ self.old.size }
     {

@@ -2,11 +2,13 @@
 use board::Board;
 use refusal::Refusal;
 use roll::Roll;
+use std::alloc::Global;
+use std::fmt::Debug;
 use std::process::Abort;
 use std::test::Fail;
 use store::Store;
 use store::any::{clear, count};
-use store::fault::StoreFault;
+use store::fault::{OutOfRange, StoreFault};
 use store::triple::Triple;
 
 #[derive(Clone, Copy)]
@@ -16,25 +18,15 @@ enum Step {
     Drop(u8),
 }
 
-impl Step {
-    fn ask<S: Store>(self, store: &mut S) -> Result<(), StoreFault> {
-        match self {
-            Step::Put(holder, target, rights) => store.put(Triple {
-                holder,
-                target,
-                rights,
-            }),
-            Step::Take(holder, target, rights) => store.take(Triple {
-                holder,
-                target,
-                rights,
-            }),
-            Step::Drop(holder) => store.drop_holder(holder),
-        }
+const OUT: Result<(), StoreFault> = Err(StoreFault::OutOfRange);
+
+fn triple(holder: u8, target: u8, rights: u8) -> Triple {
+    Triple {
+        holder,
+        target,
+        rights,
     }
 }
-
-const OUT: Result<(), StoreFault> = Err(StoreFault::OutOfRange);
 
 // What each step is answered and how many members there are then, at size 1 and at larger sizes. `last` is the largest entity
 // number, `size` the smallest that is none. The four triples differ in their rights, so that they are four at size 1 too.
@@ -63,134 +55,162 @@ fn steps(last: u8, size: u8) -> [(Step, Result<(), StoreFault>, u32, u32); 20] {
     ]
 }
 
-// Spare and count agree, and size and limit are what they were.
-fn check_numbers<S: Store>(rt: &impl Abort, store: &S, size: u8, limit: u32, members: u32) {
-    assert_eq!(rt; store.size(), size);
-    assert_eq!(rt; store.limit(), limit);
-    assert_eq!(rt; count(store), members);
-    assert_eq!(rt; store.spare() == 0, members == limit);
-    assert!(rt; store.spare() <= limit.saturating_sub(members));
+// Holds its store by value, as a table does, and knows the size and the limit that it should have.
+#[derive(Drop)]
+struct Subject<'a, R: Abort, S: Store + Drop> {
+    rt: &'a R,
+    store: S,
+    size: u8,
+    limit: u32,
 }
 
-// Begins with an empty store that has room for four.
-fn follow_steps<S: Store>(rt: &impl Abort, store: &mut S, size: u8, limit: u32) {
-    let last = size.saturating_sub(1);
-    check_numbers(rt, store, size, limit, 0);
-    for (step, answer, single, several) in steps(last, size) {
-        assert_eq!(rt; step.ask(store), answer);
-        check_numbers(
+impl<'a, R: Abort, S: Store + Drop> Subject<'a, R, S> {
+    fn new(rt: &'a R, store: S, size: u8, limit: u32) -> Subject<'a, R, S> {
+        Subject {
             rt,
             store,
             size,
             limit,
-            if size == 1 { single } else { several },
-        );
+        }
     }
-    let top = 1 << 31;
-    assert_eq!(rt; store.word(last, 0), top);
-    assert_eq!(rt; store.word(0, 0), if size == 1 { top } else { 1 << 18 });
-    assert_eq!(rt; store.word(0, last), if size == 1 { top } else { 1 });
-    assert_eq!(rt; store.word(size, 0), 0);
-    assert_eq!(rt; store.word(0, size), 0);
-    assert_eq!(rt; store.word(255, 255), 0);
-    clear(store);
-    check_numbers(rt, store, size, limit, 0);
+
+    fn ask(&mut self, step: Step) -> Result<(), StoreFault> {
+        match step {
+            Step::Put(holder, target, rights) => self.store.put(triple(holder, target, rights))?,
+            Step::Take(holder, target, rights) => self.store.take(triple(holder, target, rights))?,
+            Step::Drop(holder) => self.store.drop_holder(holder)?,
+        }
+        Ok(())
+    }
+
+    // Spare and count agree, and size and limit are what they were.
+    fn check(&self, members: u32) {
+        let rt = self.rt;
+        assert_eq!(rt; self.store.size(), self.size);
+        assert_eq!(rt; self.store.limit(), self.limit);
+        assert_eq!(rt; count(&self.store), members);
+        assert_eq!(rt; self.store.spare() == 0, members == self.limit);
+        assert!(rt; self.store.spare() <= self.limit.saturating_sub(members));
+    }
+
+    // Begins with an empty store that has room for four.
+    fn follow_steps(&mut self) {
+        let rt = self.rt;
+        let size = self.size;
+        let last = size.saturating_sub(1);
+        self.check(0);
+        for (step, answer, single, several) in steps(last, size) {
+            assert_eq!(rt; self.ask(step), answer);
+            self.check(if size == 1 { single } else { several });
+        }
+        let top = 1 << 31;
+        assert_eq!(rt; self.store.word(last, 0), top);
+        assert_eq!(rt;
+            self.store.word(0, 0),
+            if size == 1 { top } else { 1 << 18 }
+        );
+        assert_eq!(rt; self.store.word(0, last), if size == 1 { top } else { 1 });
+        assert_eq!(rt; self.store.word(size, 0), 0);
+        assert_eq!(rt; self.store.word(0, size), 0);
+        assert_eq!(rt; self.store.word(255, 255), 0);
+        clear(&mut self.store);
+        self.check(0);
+    }
+
+    // At size 1 there are 32 triples, and the store has room for all of them.
+    fn fill_up(&mut self) {
+        let rt = self.rt;
+        for rights in 0..32 {
+            self.check(rights as u32);
+            assert_eq!(rt; self.ask(Step::Put(0, 0, rights)), Ok(()));
+        }
+        self.check(32);
+        assert_eq!(rt; self.store.word(0, 0), u32::MAX);
+        assert_eq!(rt; self.ask(Step::Put(0, 0, 5)), Ok(()));
+        assert_eq!(rt; self.ask(Step::Take(0, 0, 5)), Ok(()));
+        self.check(31);
+        assert_eq!(rt; self.ask(Step::Put(0, 0, 5)), Ok(()));
+        self.check(32);
+    }
+
+    // A store over memory that does not suit it.
+    fn check_nothing(&mut self) {
+        let rt = self.rt;
+        self.check(0);
+        assert_eq!(rt; self.store.word(0, 0), 0);
+        assert_eq!(rt; self.ask(Step::Put(0, 0, 0)), OUT);
+        assert_eq!(rt; self.ask(Step::Take(0, 0, 0)), OUT);
+        assert_eq!(rt; self.ask(Step::Drop(0)), OUT);
+        clear(&mut self.store);
+        self.check(0);
+    }
+}
+
+// Lends memory for a store of each size, full of what was there before, and tells the limit that the store should have.
+fn over_memory<T: Copy + Drop, F: Fn(u8, &mut [T], u32)>(
+    alloc: Global,
+    old: T,
+    sizes: &[(u8, usize, u32)],
+    test: F,
+) -> Result<(), Fail>
+    requires { F.IsAlwaysCallable test }
+{
+    for (size, cells, limit) in sizes {
+        let mut memory = vec![in alloc; old; *cells]?;
+        test(*size, memory.as_mut_slice(), *limit);
+    }
+    Ok(())
 }
 
 #[test]
 fn steps_on_boards(rt: HostRuntime) -> Result<(), Fail> {
-    for (size, words, limit) in [
+    let sizes: [(u8, usize, u32); 4] = [
         (1, 1, 32),
         (2, 4, 128),
         (127, 16129, 516128),
         (128, 16384, 524288),
-    ] {
-        let mut memory = vec![in rt.alloc(); u32::MAX; words]?;
-        let mut board = Board::new(size, memory.as_mut_slice());
-        follow_steps(&rt, &mut board, size, limit);
-    }
-    Ok(())
+    ];
+    over_memory(rt.alloc(), u32::MAX, &sizes, |size, words, limit| {
+        Subject::new(&rt, Board::new(size, words), size, limit).follow_steps();
+    })
 }
 
 #[test]
 fn steps_on_rolls(rt: HostRuntime) -> Result<(), Fail> {
-    let old = Triple {
-        holder: 0,
-        target: 0,
-        rights: 0,
-    };
-    for (size, records) in [(1, 4), (2, 5), (127, 4095), (128, 4096)] {
-        let mut memory = vec![in rt.alloc(); old; records]?;
-        let mut roll = Roll::new(size, memory.as_mut_slice());
-        follow_steps(&rt, &mut roll, size, records as u32);
-    }
-    Ok(())
-}
-
-// Holds its store by value, as a table does.
-#[derive(Drop)]
-struct Keeper<S: Store> {
-    store: S,
-}
-
-impl<S: Store> Keeper<S> {
-    fn follow(&mut self, rt: &impl Abort, size: u8, limit: u32) {
-        follow_steps(rt, &mut self.store, size, limit);
-    }
+    let sizes: [(u8, usize, u32); 4] = [(1, 4, 4), (2, 5, 5), (127, 4095, 4095), (128, 4096, 4096)];
+    over_memory(
+        rt.alloc(),
+        triple(0, 0, 0),
+        &sizes,
+        |size, records, limit| {
+            Subject::new(&rt, Roll::new(size, records), size, limit).follow_steps();
+        },
+    )
 }
 
 #[test]
 fn steps_on_lent_stores(rt: HostRuntime) {
     let mut words = [0; 4];
     let mut board = Board::new(2, &mut words);
-    let mut keeper = Keeper { store: &mut board };
-    keeper.follow(&rt, 2, 128);
-    let mut records = [Triple {
-        holder: 0,
-        target: 0,
-        rights: 0,
-    }; 4];
+    Subject::new(&rt, &mut board, 2, 128).follow_steps();
+    let mut records = [triple(0, 0, 0); 4];
     let mut roll = Roll::new(1, &mut records);
-    let mut keeper = Keeper { store: &mut roll };
-    keeper.follow(&rt, 1, 4);
-}
-
-// At size 1 there are 32 triples, and the store has room for all of them.
-fn fill_up<S: Store>(rt: &impl Abort, store: &mut S) {
-    for rights in 0..32 {
-        check_numbers(rt, store, 1, 32, rights as u32);
-        assert_eq!(rt; Step::Put(0, 0, rights).ask(store), Ok(()));
-    }
-    check_numbers(rt, store, 1, 32, 32);
-    assert_eq!(rt; store.word(0, 0), u32::MAX);
-    assert_eq!(rt; Step::Put(0, 0, 5).ask(store), Ok(()));
-    assert_eq!(rt; Step::Take(0, 0, 5).ask(store), Ok(()));
-    check_numbers(rt, store, 1, 32, 31);
-    assert_eq!(rt; Step::Put(0, 0, 5).ask(store), Ok(()));
-    check_numbers(rt, store, 1, 32, 32);
+    Subject::new(&rt, &mut roll, 1, 4).follow_steps();
 }
 
 #[test]
 fn full_stores(rt: HostRuntime) {
     let mut words = [7; 1];
-    fill_up(&rt, &mut Board::new(1, &mut words));
-    let mut records = [Triple {
-        holder: 0,
-        target: 0,
-        rights: 3,
-    }; 32];
-    fill_up(&rt, &mut Roll::new(1, &mut records));
+    Subject::new(&rt, Board::new(1, &mut words), 1, 32).fill_up();
+    let mut records = [triple(0, 0, 3); 32];
+    Subject::new(&rt, Roll::new(1, &mut records), 1, 32).fill_up();
 }
 
 // A full roll refuses what is new to it, and nothing else; what is freed is used again.
 #[test]
 fn full_roll(rt: HostRuntime) {
-    let mut records = [Triple {
-        holder: 9,
-        target: 9,
-        rights: 99,
-    }; 3];
-    let mut roll = Roll::new(2, &mut records);
+    let mut records = [triple(9, 9, 99); 3];
+    let mut subject = Subject::new(&rt, Roll::new(2, &mut records), 2, 3);
     let cases: [(Step, Result<(), StoreFault>, u32); 14] = [
         (Step::Put(0, 0, 1), Ok(()), 1),
         (Step::Put(0, 1, 1), Ok(()), 2),
@@ -208,23 +228,40 @@ fn full_roll(rt: HostRuntime) {
         (Step::Put(1, 1, 0), Ok(()), 3),
     ];
     for (step, answer, members) in cases {
-        assert_eq!(rt; step.ask(&mut roll), answer);
-        check_numbers(&rt, &roll, 2, 3, members);
+        assert_eq!(&rt; subject.ask(step), answer);
+        subject.check(members);
     }
-    assert_eq!(rt; roll.word(0, 1), 2);
-    assert_eq!(rt; roll.word(1, 1), 0x8000_0001);
-    assert_eq!(rt; roll.word(1, 0), 0);
+    assert_eq!(&rt; subject.store.word(0, 1), 2);
+    assert_eq!(&rt; subject.store.word(1, 1), 0x8000_0001);
+    assert_eq!(&rt; subject.store.word(1, 0), 0);
 }
 
-// A store over memory that does not suit it.
-fn check_nothing<S: Store>(rt: &impl Abort, store: &mut S) {
-    check_numbers(rt, store, 0, 0, 0);
-    assert_eq!(rt; store.word(0, 0), 0);
-    assert_eq!(rt; Step::Put(0, 0, 0).ask(store), OUT);
-    assert_eq!(rt; Step::Take(0, 0, 0).ask(store), OUT);
-    assert_eq!(rt; Step::Drop(0).ask(store), OUT);
-    clear(store);
-    check_numbers(rt, store, 0, 0, 0);
+// Which memory suits a store of which size. Memory that does not is left as it was.
+fn memory_for<
+    T: Copy + PartialEq + Debug + Drop,
+    C: Fn(u8, &[T]) -> Result<(), OutOfRange>,
+    F: Fn(u8, &mut [T]),
+>(
+    rt: &impl Abort,
+    alloc: Global,
+    old: T,
+    cases: &[(u8, usize, bool)],
+    check: C,
+    unsuited: F,
+) -> Result<(), Fail>
+    requires check { C.IsAlwaysCallable check }
+    requires unsuited { F.IsAlwaysCallable unsuited }
+{
+    for (size, cells, suits) in cases {
+        let mut memory = vec![in alloc; old; *cells]?;
+        let expected = if *suits { Ok(()) } else { Err(OutOfRange) };
+        assert_eq!(rt; check(*size, memory.as_slice()), expected);
+        if !*suits {
+            unsuited(*size, memory.as_mut_slice());
+            assert!(rt; memory.iter().all(|cell| *cell == old));
+        }
+    }
+    Ok(())
 }
 
 #[test]
@@ -243,20 +280,16 @@ fn memory_for_boards(rt: HostRuntime) -> Result<(), Fail> {
         (128, 16383, false),
         (128, 16385, false),
     ];
-    for (size, words, suits) in cases {
-        let mut memory = vec![in rt.alloc(); 0x1234_5678; words]?;
-        assert_eq!(rt;
-            Board::check(size, memory.as_slice()),
-            if suits { Ok(()) } else { OUT }
-        );
-        if !suits {
-            check_nothing(&rt, &mut Board::new(size, memory.as_mut_slice()));
-            for word in memory.iter() {
-                assert_eq!(rt; *word, 0x1234_5678);
-            }
-        }
-    }
-    Ok(())
+    memory_for(
+        &rt,
+        rt.alloc(),
+        0x1234_5678,
+        &cases,
+        Board::check,
+        |size, words| {
+            Subject::new(&rt, Board::new(size, words), 0, 0).check_nothing();
+        },
+    )
 }
 
 #[test]
@@ -272,25 +305,16 @@ fn memory_for_rolls(rt: HostRuntime) -> Result<(), Fail> {
         (1, 0, false),
         (128, 4097, false),
     ];
-    let old = Triple {
-        holder: 0,
-        target: 0,
-        rights: 1,
-    };
-    for (size, records, suits) in cases {
-        let mut memory = vec![in rt.alloc(); old; records]?;
-        assert_eq!(rt;
-            Roll::check(size, memory.as_slice()),
-            if suits { Ok(()) } else { OUT }
-        );
-        if !suits {
-            check_nothing(&rt, &mut Roll::new(size, memory.as_mut_slice()));
-            for record in memory.iter() {
-                assert_eq!(rt; *record, old);
-            }
-        }
-    }
-    Ok(())
+    memory_for(
+        &rt,
+        rt.alloc(),
+        triple(0, 0, 1),
+        &cases,
+        Roll::check,
+        |size, records| {
+            Subject::new(&rt, Roll::new(size, records), 0, 0).check_nothing();
+        },
+    )
 }
 
 #[test]

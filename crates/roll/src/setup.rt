@@ -7,6 +7,7 @@ ghost use Rattle.roll.specs.Rolls.{contents_of, Suits};
 
 use crate::Roll;
 use store::fault::OutOfRange;
+use store::size::is_size;
 use store::triple::Triple;
 
 impl<'a> Roll<'a> {
@@ -14,7 +15,7 @@ impl<'a> Roll<'a> {
     pub fn check(size: u8, records: &[Triple]) -> Result<(), OutOfRange>
         ensures { RefusedUnless (Suits size (length records.now)) result }
     {
-        if size == 0 || size > 128 || records.is_empty() || records.len() > 4096 {
+        if !is_size(size) || records.is_empty() || records.len() > 4096 {
             return Err(OutOfRange);
         }
         Ok(())

@@ -9,6 +9,10 @@ use Rattle.store.specs.declared.triple.Triple.{Triple}
 abbrev pub at {ℓ} : {X : Type ℓ} → Triple → (ℕ → ℕ → ℕ → X) → X
 at triple said = said triple.holder triple.target triple.rights
 
+-- the sizes that a store can have
+abbrev pub IsSize : ℕ → Type 0
+IsSize size = (1 ≤ size) × (size ≤ 128)
+
 -- holder and target are below the size, and the rights are a set of rights
 abbrev pub InRange : ℕ → ℕ → ℕ → ℕ → Type 0
 InRange size h t r = (h < size) × (t < size) × (r ≤ all_rights)

@@ -15,6 +15,7 @@ pub mod any;
 pub mod fault;
 mod laws;
 pub mod lent;
+pub mod size;
 pub mod triple;
 
 // A set of triples, its members, with a size and a limit that never change.
