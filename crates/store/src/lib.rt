@@ -22,8 +22,6 @@ pub mod triple;
 pub trait Store {
     ghost contents: { Self → Contents };
 
-    ghost lawful: { (s : Self) → Lawful (contents s) };
-
     fn size(&self) -> u8
         ensures { result ≡ (contents self.now).size };
 
@@ -55,4 +53,7 @@ pub trait Store {
     fn drop_holder(&mut self, holder: u8) -> Result<(), OutOfRange>
         ensures range { RefusedUnless (holder < (contents self.old).size) result }
         ensures drops { Becomes result (dropped holder) (contents self.old) (contents self.new) };
+
+    // What is true of every store.
+    ghost lawful: { (s : Self) → Lawful (contents s) };
 }

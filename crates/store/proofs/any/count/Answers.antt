@@ -7,7 +7,7 @@ pub sum-requires-clause-fits : goal.sum-requires-clause-fits
 unfolding members
 sum-requires-clause-fits g c =
     let store = g.S.Store.contents c.args.store.now in
-    let lawful = g.S.Store.lawful c.args.store.now in
+    let lawful = g.met.S.Store.lawful c.args.store.now in
     let each = held_by store.size store.holds in
     fits_below each c.size.result (cc) c.map.ensures.closure (λ x r q k. search (rules, tests)) (2 ^ 32)
     (omega (arith, lawful.fits, lawful.bounded, ap (total each) c.size.ensures))
