@@ -1,6 +1,7 @@
 pub mod Names
 pub mod Entries
 pub mod Flaws
+pub mod Kinds
 pub mod Refusals
 pub mod Readers
 pub mod Records

@@ -5,12 +5,13 @@ use Rattle.sheet.specs.declared.fault.Flaw.{Flaw}
 use Rattle.sheet.specs.declared.fault.Flaw.TheVariants.{Cut}
 use Rattle.sheet.specs.declared.reader.Reader.{Reader}
 use Rattle.sheet.specs.declared.record.Name.{Name}
+use Rattle.sheet.specs.declared.record.Content.{Content}
 use Rattle.sheet.specs.declared.record.Record.{Record}
 use Rattle.sheet.specs.Names.{name_byte, NameBytes, LawfulName}
 use Rattle.sheet.specs.Entries.{Lawful, bytes, spelled}
 use Rattle.sheet.specs.Flaws.{NameFlaw, Flawed}
 use Rattle.sheet.specs.Readers.{sheet_of, position, rest}
-use Rattle.sheet.specs.Records.{text, said, PartAt, Located}
+use Rattle.sheet.specs.Records.{text, told, said, PartAt, NamesAt, Located}
 
 -- either all bytes may stand in a name, or one is the first that may not
 abbrev pub AllNameBytes : List ℕ → Bool → Type 0
@@ -38,14 +39,15 @@ NameRead old (Ok name) new =
     LawfulName (text name) × Past old (spelled (text name)) new × PartAt (sheet_of old) (position old + 1) name
 NameRead old (Err flaw) new = NameFlaw flaw (rest old)
 
--- a record is read off these bytes, which begin at a place of the sheet
-abbrev pub RecordRead : List ℕ → ℕ → List ℕ → Result Record Flaw → Reader → Type 0
-RecordRead sheet at front (Ok found) new =
-    Lawful (said found) × (front ≡ bytes (said found) ++ rest new) × (sheet_of new ≡ sheet) × Located sheet at found
-    × (position new ≡ at + length (bytes (said found)))
-RecordRead sheet at front (Err flaw) new = Flawed flaw front
+-- what stands behind a map is read as the fields that it tells of, and the names among them tell their places
+abbrev pub ContentRead : ℕ → Reader → Result Content Flaw → Reader → Type 0
+ContentRead map old (Ok found) new =
+    Lawful (told found) × (map ∷ rest old ≡ bytes (told found) ++ rest new) × (sheet_of new ≡ sheet_of old)
+    × (position new + 1 ≡ position old + length (bytes (told found)))
+    × ((at : ℕ) → position old ≡ at + 1 → NamesAt (sheet_of old) at found)
+ContentRead map old (Err flaw) new = Flawed flaw (map ∷ rest old)
 
--- a record is read, or the reader stays where it is
-abbrev pub Advanced : Reader → Result Record Flaw → Reader → Type 0
-Advanced old (Ok found) new = RecordRead (sheet_of old) (position old) (rest old) (Ok found) new
-Advanced old (Err flaw) new = Flawed flaw (rest old) × (sheet_of new ≡ sheet_of old) × (position new ≡ position old)
+abbrev pub RecordRead : Reader → Result Record Flaw → Reader → Type 0
+RecordRead old (Ok found) new =
+    Lawful (said found) × Past old (bytes (said found)) new × Located (sheet_of old) (position old) found
+RecordRead old (Err flaw) new = Flawed flaw (rest old)

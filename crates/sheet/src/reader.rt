@@ -2,7 +2,7 @@
 ghost use Rattle.std.specs.Prelude.{◌≤◌, length};
 
 // The sheet, and the index of the first byte that is not yet read.
-#[derive(Drop)]
+#[derive(Clone, Copy)]
 pub struct Reader<'a> {
     sheet: &'a [u8],
     at: usize,
@@ -10,5 +10,6 @@ pub struct Reader<'a> {
 }
 
 mod fields;
+mod kind;
 mod next;
 mod records;

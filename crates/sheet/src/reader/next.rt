@@ -1,10 +1,9 @@
 // What a reader's user calls.
-ghost use Rattle.std.specs.Prelude.{◌≡◌, ◌+◌, ◌<◌, true, ◌↔◌, length, is_err};
+ghost use Rattle.std.specs.Prelude.{◌≡◌, ◌+◌, true, ◌↔◌, is_err};
 ghost use Rattle.sheet.specs.Readers.{position, rest, sheet_of};
 ghost use Rattle.sheet.specs.Outcomes.{Outcome, outcome, Shows, NoRecord, Placed, width};
-ghost use Rattle.sheet.specs.Steps.{Advanced};
 
-use crate::fault::{Fault, Flaw};
+use crate::fault::Fault;
 use crate::reader::Reader;
 use crate::record::Record;
 
@@ -16,7 +15,7 @@ impl<'a> Reader<'a> {
         Reader { sheet, at: 0 }
     }
 
-    // The next record, or `None` at the end of the sheet.
+    // The next record, or `None` at the end of the sheet. A copy reads on, so that a flaw leaves this reader where it is.
     pub fn next(&mut self) -> Result<Option<Record<'a>>, Fault>
         ensures exactly { (o : Outcome) → (outcome result ≡ o) ↔ Shows (rest self.old) o }
         ensures refuses { (is_err result ≡ true) ↔ NoRecord (rest self.old) }
@@ -28,23 +27,9 @@ impl<'a> Reader<'a> {
         if place == self.sheet.len() {
             return Ok(None);
         }
-        match self.advance() {
-            Ok(record) => Ok(Some(record)),
-            Err(flaw) => Err(Fault { place, flaw }),
-        }
-    }
-
-    // A copy reads on, so that a flaw leaves this reader where it is.
-    fn advance(&mut self) -> Result<Record<'a>, Flaw>
-        requires { 0 < length (rest self.old) }
-        ensures { Advanced self.old result self.new }
-    {
-        let mut ahead = Reader {
-            sheet: self.sheet,
-            at: self.at,
-        };
-        let record = ahead.record()?;
-        self.at = ahead.at;
-        Ok(record)
+        let mut ahead = *self;
+        let record = ahead.record().map_err(|flaw| Fault { place, flaw })?;
+        *self = ahead;
+        Ok(Some(record))
     }
 }
