@@ -3,5 +3,4 @@ pub mod Decoding
 pub mod Exact
 pub mod NameCases
 pub mod Reading
-pub mod Spans
 pub mod Walking

@@ -13,12 +13,6 @@ use Rattle.sheet.specs.Flaws.{NameFlaw, Flawed}
 use Rattle.sheet.specs.Readers.{sheet_of, position, rest}
 use Rattle.sheet.specs.Records.{text, told, said, PartAt, NamesAt, Located}
 
--- either all bytes may stand in a name, or one is the first that may not
-abbrev pub AllNameBytes : List ℕ → Bool → Type 0
-AllNameBytes bs true = NameBytes bs
-AllNameBytes bs false =
-    (good : List ℕ) × (bad : ℕ) × (more : List ℕ) × (bs ≡ good ++ bad ∷ more) × NameBytes good × (name_byte bad ≡ false)
-
 -- the reader moves past these bytes of the same sheet
 abbrev pub Past : Reader → List ℕ → Reader → Type 0
 Past old front new =
@@ -28,11 +22,10 @@ abbrev pub ByteRead : Reader → Result ℕ Flaw → Reader → Type 0
 ByteRead old (Ok b) new = Past old (b ∷ []) new
 ByteRead old (Err flaw) new = (flaw ≡ Cut) × (rest old ≡ [])
 
--- a name's bytes behind its length
-abbrev pub NameBytesRead : List ℕ → ℕ → ℕ → Result (Bor (List ℕ)) Flaw → Type 0
-NameBytesRead sheet place len (Ok name) =
-    (name.now ≡ take len (drop place sheet)) × (length name.now ≡ len) × LawfulName name.now
-NameBytesRead sheet place len (Err flaw) = NameFlaw flaw (len ∷ drop place sheet)
+-- a name of this length is the front of these bytes
+abbrev pub NameBytesRead : List ℕ → ℕ → Result (Bor (List ℕ)) Flaw → Type 0
+NameBytesRead bs len (Ok name) = (name.now ≡ take len bs) × (length name.now ≡ len) × LawfulName name.now
+NameBytesRead bs len (Err flaw) = NameFlaw flaw (len ∷ bs)
 
 abbrev pub NameRead : Reader → Result Name Flaw → Reader → Type 0
 NameRead old (Ok name) new =

@@ -1,7 +1,7 @@
 // The fields of a record: single bytes, and names.
-ghost use Rattle.std.specs.Prelude.{◌≡◌, ◌+◌, ◌≤◌, length, Decides};
+ghost use Rattle.std.specs.Prelude.{◌≡◌, ◌↔◌, IsTrue};
 ghost use Rattle.sheet.specs.Names.{name_byte, LawfulLength};
-ghost use Rattle.sheet.specs.Steps.{AllNameBytes, ByteRead, NameBytesRead, NameRead};
+ghost use Rattle.sheet.specs.Steps.{ByteRead, NameBytesRead, NameRead};
 
 use crate::fault::Flaw;
 use crate::reader::Reader;
@@ -12,66 +12,45 @@ const MAX_NAME: usize = 32;
 fn is_name_byte(b: u8) -> bool
     ensures { result ≡ name_byte b }
 {
-    b.is_ascii_alphanumeric() || b == b'-' || b == b'_' || b == b'.'
+    b.is_ascii_alphanumeric() || matches!(b, b'-' | b'_' | b'.')
 }
 
 fn is_name_length(len: usize) -> bool
-    ensures { Decides result (LawfulLength len) }
+    ensures { IsTrue result ↔ LawfulLength len }
 {
-    1 <= len && len <= MAX_NAME
+    (1..=MAX_NAME).contains(&len)
 }
 
-fn all_name_bytes(bytes: &[u8]) -> bool
-    ensures { AllNameBytes bytes.now result }
-{
-    for b in bytes {
-        if !is_name_byte(*b) {
-            return false;
-        }
-    }
-    true
-}
-
-// The bytes of a name of length `len` at `place`. They are judged before their number is, so that a bad name is told
-// from a cut one.
-fn name_bytes(sheet: &[u8], place: usize, len: usize) -> Result<&[u8], Flaw>
-    requires { place ≤ length sheet.now }
-    ensures { NameBytesRead sheet.now place len result }
+// A name of length `len` that begins these bytes. Those that are there are judged before their number is, so that a
+// bad name is told from a cut one.
+fn name_bytes(bytes: &[u8], len: usize) -> Result<&[u8], Flaw>
+    ensures { NameBytesRead bytes.now len result }
 {
     if !is_name_length(len) {
         return Err(Flaw::BadLength);
     }
-    let end = place + len.min(sheet.len() - place);
-    let bytes = &sheet[place..end];
-    if !all_name_bytes(bytes) {
+    if !bytes.iter().take(len).all(|b| is_name_byte(*b)) {
         return Err(Flaw::BadCharacter);
     }
-    if bytes.len() < len {
-        return Err(Flaw::Cut);
-    }
-    Ok(bytes)
+    bytes.get(..len).ok_or(Flaw::Cut)
 }
 
 impl<'a> Reader<'a> {
     pub(super) fn byte(&mut self) -> Result<u8, Flaw>
         ensures { ByteRead self.old result self.new }
     {
-        let sheet = self.sheet;
-        let at = self.at;
-        if at == sheet.len() {
-            return Err(Flaw::Cut);
-        }
-        self.at = at + 1;
-        Ok(sheet[at])
+        let b = *self.sheet.get(self.at).ok_or(Flaw::Cut)?;
+        self.at += 1;
+        Ok(b)
     }
 
     pub(super) fn name(&mut self) -> Result<Name<'a>, Flaw>
         ensures { NameRead self.old result self.new }
     {
-        let len = self.byte()? as usize;
+        let len = usize::from(self.byte()?);
         let place = self.at;
-        let bytes = name_bytes(self.sheet, place, len)?;
-        self.at = place + len;
+        let bytes = name_bytes(&self.sheet[place..], len)?;
+        self.at += len;
         Ok(Name { place, bytes })
     }
 }
