@@ -1,5 +1,5 @@
 -- Every list of bytes calls for one outcome at most: the one that a decoder gives.
-use Rattle.std.proofs.Common.{◌≡◌, ℕ, zero, suc, ◌<◌, true, false, cond, ◌&&◌, eqb, leb, ◌⊎◌, List, [], ◌∷◌, ◌++◌, length, sym, refl, ap, ◌∙◌, subst, inl, inr, ⊎_elim, arith, length-append}
+use Rattle.std.proofs.Common.{◌≡◌, ℕ, zero, suc, ◌<◌, true, false, if◌then◌else◌, ◌&&◌, ◌==◌, leb, ◌⊎◌, List, [], ◌∷◌, ◌++◌, length, sym, refl, ap, ◌∙◌, subst, inl, inr, ⊎_elim, arith, length-append}
 use Rattle.std.proofs.lemmas.List.{append_assoc, nil_from_length}
 use Rattle.std.proofs.lemmas.Bool.{le-leb, leb-true, ne_eqb, and_parts, cases_Bool}
 use Rattle.sheet.specs.declared.fault.Flaw.{Flaw}
@@ -22,11 +22,11 @@ push b (bad flaw) = bad flaw
 abbrev letters : ℕ → List ℕ → Spelling
 letters zero bs = got [] bs
 letters (suc n) [] = bad Cut
-letters (suc n) (b ∷ bs) = cond (name_byte b) (push b (letters n bs)) (bad BadCharacter)
+letters (suc n) (b ∷ bs) = if name_byte b then push b (letters n bs) else bad BadCharacter
 
 abbrev name_at : List ℕ → Spelling
 name_at [] = bad Cut
-name_at (len ∷ bs) = cond (leb 1 len && leb len 32) (letters len bs) (bad BadLength)
+name_at (len ∷ bs) = if leb 1 len && leb len 32 then letters len bs else bad BadLength
 
 -- a name, and then what a kind of record goes on with
 abbrev after : Spelling → (List ℕ → List ℕ → Outcome) → Outcome
@@ -49,11 +49,11 @@ drawn from more = after (name_at more) (λ to _. entry (arrow from to))
 abbrev decoded : List ℕ → Outcome
 decoded [] = end
 decoded (map ∷ rest) =
-    cond (eqb map compartment_map) (after (name_at rest) (λ name _. entry (compartment name)))
-    (cond (eqb map entity_map) (after (name_at rest) placed)
-    (cond (eqb map capability_map) (held rest)
-    (cond (eqb map arrow_map) (after (name_at rest) drawn)
-    (broken UnknownMap))))
+    if map == compartment_map then after (name_at rest) (λ name _. entry (compartment name))
+    else (if map == entity_map then after (name_at rest) placed
+    else (if map == capability_map then held rest
+    else (if map == arrow_map then after (name_at rest) drawn
+    else broken UnknownMap)))
 
 -- a whole name, and what is left of it to read
 letters_whole : (name more : List ℕ) → NameBytes name → letters (length name) (name ++ more) ≡ got name more

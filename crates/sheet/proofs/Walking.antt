@@ -89,9 +89,6 @@ reads_on front (x ∷ said) l = (
 pub read_back : ReadBack
 read_back said l = reads_on [] said l
 
-end_is_no_flaw : {flaw : Flaw} → end ≡ broken flaw → ⊥
-end_is_no_flaw e = let z : ◌≡◌ {A = ℕ} 0 1 = cc in omega arith
-
 -- the reader's walk, once it stops, is the only one through the sheet
 module _ {sheet : List ℕ} {reader : Reader} {count : ℕ} (h : Sofar sheet reader count) (o : Outcome) (stop : Stop o) (shows : Shows (rest reader) o) where
   as_formed : (n : ℕ) → Counted sheet (Ok n) → (n ≡ count) × (o ≡ end)
@@ -104,23 +101,33 @@ module _ {sheet : List ℕ} {reader : Reader} {count : ℕ} (h : Sofar sheet rea
       let same = one_walk h.said said (rest reader) rest' o (broken fault.flaw) h.lawful lawful stop tt shows flawed (sym h.front ∙ e) in
       (sym place ∙ ap (λ l. length (written l)) (sym same.0) ∙ sym h.at, same.1)
 
--- this answer fits the sheet, and no other does
-abbrev pub Alone : List ℕ → Result ℕ Fault → Type 0
-Alone sheet r = Counted sheet r × ((other : Result ℕ Fault) → Counted sheet other → other ≡ r)
+-- this answer fits the sheet, and no other does; and what is true of the format
+abbrev pub Answered : List ℕ → Result ℕ Fault → Type 0
+Answered sheet r = record {
+  counts : Counted sheet r;
+  alone : (other : Result ℕ Fault) → Counted sheet other → other ≡ r;
+  unambiguous : Unambiguous;
+  read_back : ReadBack;
+  one_reading : OneReading;
+}
+
+answered : (sheet : List ℕ) (r : Result ℕ Fault) → Counted sheet r → ((other : Result ℕ Fault) → Counted sheet other → other ≡ r) → Answered sheet r
+answered sheet r counts alone =
+    record { counts = counts; alone = alone; unambiguous = unambiguous; read_back = read_back; one_reading = one_reading }
 
 module _ {sheet : List ℕ} {reader : Reader} {count : ℕ} (h : Sofar sheet reader count) where
-  pub whole_sheet : rest reader ≡ [] → Alone sheet (Ok count)
-  whole_sheet none = ((h.said, (h.lawful, h.front ∙ ap (λ l. written h.said ++ l) none ∙ append-nil (written h.said)), h.counted), only)
+  pub whole_sheet : rest reader ≡ [] → Answered sheet (Ok count)
+  whole_sheet none = answered sheet _ (h.said, (h.lawful, h.front ∙ ap (λ l. written h.said ++ l) none ∙ append-nil (written h.said)), h.counted) only
     where
       only : (other : Result ℕ Fault) → Counted sheet other → other ≡ Ok count
       only (Ok n) formed = ap Ok (as_formed h end tt none n formed).0
-      only (Err fault) b = absurd (end_is_no_flaw (as_broken h end tt none fault b).1)
+      only (Err fault) b = absurd (cc ((as_broken h end tt none fault b).1))
 
-  pub broken_sheet : (fault : Fault) → fault.place ≡ reader.at → Flawed fault.flaw (rest reader) → Alone sheet (Err fault)
-  broken_sheet fault at flawed = ((h.said, rest reader, h.lawful, h.front, sym h.at ∙ sym at, flawed), only)
+  pub broken_sheet : (fault : Fault) → fault.place ≡ reader.at → Flawed fault.flaw (rest reader) → Answered sheet (Err fault)
+  broken_sheet fault at flawed = answered sheet _ (h.said, rest reader, h.lawful, h.front, sym h.at ∙ sym at, flawed) only
     where
       only : (other : Result ℕ Fault) → Counted sheet other → other ≡ Err fault
-      only (Ok n) formed = absurd (end_is_no_flaw (sym (as_formed h (broken fault.flaw) tt flawed n formed).1))
+      only (Ok n) formed = absurd (cc ((as_formed h (broken fault.flaw) tt flawed n formed).1))
       only (Err fault') b =
           let same = as_broken h (broken fault.flaw) tt flawed fault' b in
           let flaw : fault'.flaw ≡ fault.flaw = cc in

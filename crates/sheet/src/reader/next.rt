@@ -15,7 +15,7 @@ impl<'a> Reader<'a> {
         Reader { sheet, at: 0 }
     }
 
-    // The next record, or `None` at the end of the sheet. A copy reads on, so that a flaw leaves this reader where it is.
+    // The next record, or `None` at the end of the sheet.
     pub fn next(&mut self) -> Result<Option<Record<'a>>, Fault>
         ensures exactly { (o : Outcome) → (outcome result ≡ o) ↔ Shows (rest self.old) o }
         ensures refuses { (is_err result ≡ true) ↔ NoRecord (rest self.old) }
@@ -27,6 +27,7 @@ impl<'a> Reader<'a> {
         if place == self.sheet.len() {
             return Ok(None);
         }
+        // a copy reads on, so that a flaw leaves this reader where it is
         let mut ahead = *self;
         let record = ahead.record().map_err(|flaw| Fault { place, flaw })?;
         *self = ahead;

@@ -2,17 +2,15 @@ use Rattle.std.proofs.Common.{Ok, refl, ap}
 use Rattle.std.proofs.lemmas.Result.{err_from_is_err_and}
 use Rattle.sheet.specs.Outcomes.{entry, end, broken, outcome}
 use Rattle.sheet.specs.Records.{said}
-use Rattle.sheet.proofs.Walking.{Alone, step, whole_sheet, broken_sheet, unambiguous, read_back, one_reading}
+use Rattle.sheet.proofs.Walking.{step, whole_sheet, broken_sheet}
 use Rattle.sheet.proofs.count.count_records.Goals as goal
 
 pub returns-in_err-_record : goal.returns-in_err-_record
 returns-in_err-_record c =
     let next = c.in_err-_record.ensures in
     let fault = c.in_err-_record.field-0.0 in
-    let p = err_from_is_err_and c.from_residual.result c.from_residual.ensures.1 in
-    let ends = broken_sheet c.loop-record.invariant fault next.places ((next.exactly (broken fault.flaw)).0 refl) in
-    let answer : Alone c.args.sheet.now c.from_residual.result = rw (p.1, p.2) ends in
-    record { counts = answer.0; alone = answer.1; unambiguous = unambiguous; read_back = read_back; one_reading = one_reading }
+    let (other, is, same) = err_from_is_err_and c.from_residual.result c.from_residual.ensures.1 in
+    rw (is, same) (broken_sheet c.loop-record.invariant fault next.places ((next.exactly (broken fault.flaw)).0 refl))
 
 pub loop-record-preserved : goal.loop-record-preserved
 loop-record-preserved c =
@@ -24,5 +22,4 @@ loop-record-preserved c =
 pub returns : goal.returns
 returns c =
     let next = c.in_ok-_record.ensures in
-    let answer = whole_sheet c.loop-record.invariant ((next.exactly end).0 (ap (λ x. outcome (Ok x)) c.in_default.is)) in
-    record { counts = answer.0; alone = answer.1; unambiguous = unambiguous; read_back = read_back; one_reading = one_reading }
+    whole_sheet c.loop-record.invariant ((next.exactly end).0 (ap (λ x. outcome (Ok x)) c.in_default.is))
