@@ -1,5 +1,5 @@
 -- How the bytes behind a name's length come out: bad, cut or whole.
-use Rattle.std.proofs.Common.{◌≡◌, ℕ, zero, suc, ◌+◌, ◌-◌, ◌<◌, ◌≤◌, true, false, List, [], ◌∷◌, ◌++◌, length, take, drop, replicate, Bor, None, Some, MatchOption, Option, sym, refl, ap, ◌∙◌, subst, ap₂, ◌⊎◌, inl, inr, ⊎_elim, arith, lit<, lit≤, length-append, length-drop, take-append-drop, length-take}
+use Rattle.std.proofs.Common.{◌≡◌, ℕ, zero, suc, ◌+◌, ◌-◌, ◌<◌, ◌≤◌, true, false, List, [], ◌∷◌, ◌++◌, length, take, drop, replicate, Bor, None, Some, MatchOption, Option, sym, refl, ap, ◌∙◌, subst, ap₂, ◌⊎◌, inl, inr, ⊎_elim, arith, lit<, lit≤, length-append, length-drop, take-append-drop}
 use lib.ListN.{length-replicate}
 use Rattle.std.specs.List.{list_all, slice_range}
 use Rattle.std.specs.Option.{ok_or}
@@ -8,7 +8,7 @@ use Rattle.std.proofs.lemmas.Bool.{and_parts, cases_Bool}
 use Rattle.std.proofs.lemmas.List.{drop-drop, get_or-replicate, take_all}
 use Rattle.sheet.specs.declared.fault.Flaw.{Flaw}
 use Rattle.sheet.specs.declared.fault.Flaw.TheVariants.{Cut, BadCharacter}
-use Rattle.sheet.specs.Names.{name_byte, NameBytes, LawfulLength, LawfulName}
+use Rattle.sheet.specs.Names.{name_byte, NameBytes, LawfulLength}
 use Rattle.sheet.specs.Entries.{spelled}
 use Rattle.sheet.specs.Flaws.{NameFlaw}
 use Rattle.sheet.specs.Steps.{NameBytesRead}

@@ -1,5 +1,5 @@
 -- The way out of a `?` in a record.
-use Rattle.std.proofs.Common.{◌≡◌, List, ◌∷◌, IsErrAnd, Result}
+use Rattle.std.proofs.Common.{◌≡◌, ◌∷◌, IsErrAnd, Result}
 use Rattle.std.proofs.lemmas.Result.{err_from_is_err_and}
 use Rattle.sheet.specs.declared.fault.Flaw.{Flaw}
 use Rattle.sheet.specs.declared.reader.Reader.{Reader}

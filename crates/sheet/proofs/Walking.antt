@@ -4,7 +4,6 @@ use Rattle.std.specs.List.{AllByRecursion}
 use Rattle.std.proofs.ByRecursion.{All-push}
 use Rattle.std.proofs.lemmas.List.{append_assoc, append_cancel_left, append-nil, drop_at, drop-drop, flat_map_more, length_push}
 use Rattle.sheet.specs.declared.fault.Fault.{Fault}
-use Rattle.sheet.specs.declared.fault.Flaw.{Flaw}
 use Rattle.sheet.specs.declared.reader.Reader.{Reader}
 use Rattle.sheet.specs.Entries.{Entry, compartment, entity, capability, arrow, bytes, Lawful, written}
 use Rattle.sheet.specs.Flaws.{Flawed}

@@ -1,5 +1,5 @@
 -- What the reader's own steps do, for the proofs of its public calls.
-use Rattle.std.specs.Prelude.{◌≡◌, ℕ, ◌+◌, Bool, true, false, List, [], ◌∷◌, ◌++◌, length, take, drop, Ok, Err, Result}
+use Rattle.std.specs.Prelude.{◌≡◌, ℕ, ◌+◌, List, [], ◌∷◌, ◌++◌, length, take, Ok, Err, Result}
 use Rattle.std.specs.Borrow.{Bor}
 use Rattle.sheet.specs.declared.fault.Flaw.{Flaw}
 use Rattle.sheet.specs.declared.fault.Flaw.TheVariants.{Cut}
@@ -7,7 +7,7 @@ use Rattle.sheet.specs.declared.reader.Reader.{Reader}
 use Rattle.sheet.specs.declared.record.Name.{Name}
 use Rattle.sheet.specs.declared.record.Content.{Content}
 use Rattle.sheet.specs.declared.record.Record.{Record}
-use Rattle.sheet.specs.Names.{name_byte, NameBytes, LawfulName}
+use Rattle.sheet.specs.Names.{LawfulName}
 use Rattle.sheet.specs.Entries.{Lawful, bytes, spelled}
 use Rattle.sheet.specs.Flaws.{NameFlaw, Flawed}
 use Rattle.sheet.specs.Readers.{sheet_of, position, rest}
