@@ -68,12 +68,9 @@ fn broken_sheets(rt: HostRuntime) {
 #[test]
 fn cut_sheets(rt: HostRuntime) {
     let sheet: &[u8] = WORKED;
-    let mut whole: usize = 0;
-    for len in 0..sheet.len() {
-        if count_records(&sheet[0..len]).is_ok() {
-            whole = whole.saturating_add(1);
-        }
-    }
+    let whole = (0..sheet.len())
+        .filter(|len| count_records(&sheet[..*len]).is_ok())
+        .count();
     assert_eq!(rt; whole, 12);
 }
 
