@@ -1,23 +1,18 @@
 -- What the words of a board mark, and how a write changes that.
 use borrow.Rule.Slice.PartMut.{put_mid}
-use Rattle.std.proofs.Common.{◌≡◌, ℕ, ◌+◌, ◌-◌, ◌*◌, ◌^◌, ◌<◌, ◌≤◌, Bool, true, false, not, ◌&&◌, ◌||◌, eqb, List, length, get_or, take, drop, set, replicate, sym, refl, ap, ◌∙◌, subst, ⊎_elim, suc-mul, arith, rules, length-drop, length-take}
+use Rattle.std.proofs.Common.{◌≡◌, ℕ, ◌+◌, ◌-◌, ◌*◌, ◌^◌, ◌<◌, ◌≤◌, Bool, true, false, not, ◌&&◌, ◌||◌, eqb, List, length, get_or, set, replicate, sym, refl, ap, ◌∙◌, ⊎_elim, suc-mul, arith, rules}
 use Rattle.std.proofs.lemmas.Nat.{mul-add-lt, mul-le, same_from_place}
-use Rattle.std.proofs.lemmas.List.{get_or-set_same, get_or-set_other, places}
+use Rattle.std.proofs.lemmas.List.{get_or-set_same, get_or-set_other, length-replicate, places}
 use Rattle.std.proofs.lemmas.Bool.{and_left, and_right, cases_eq, cases_lt, eq-eqb}
 use Rattle.std.proofs.lemmas.Bool.Decides.{nat_tests}
 use Rattle.access.specs.Rights.{bit}
-use Rattle.access.specs.Rules.Sets.{Triples, none, same, added, removed, dropped}
+use Rattle.access.specs.Rules.Sets.{Triples, same, added, removed, dropped}
 use Rattle.access.proofs.Bits.{bit_past, bit_zero}
 use Rattle.access.proofs.Rules.Membership.{added_elsewhere, dropped_elsewhere, dropped_there, removed_elsewhere}
 use Rattle.store.specs.Contents.{NowHolds, Same}
 use Rattle.board.specs.declared.Board.{Board}
 use Rattle.board.specs.Boards.{contents_of, marked}
 use Rattle.store.specs.Ranges.{inside}
-
-pub none_marked : (size n : ℕ) (words : List ℕ) → words ≡ replicate n 0 → Same (marked size words) none
-none_marked size n words blank h t r =
-    let word : get_or words (h * size + t) 0 ≡ 0 = ap (λ (ws : List ℕ). get_or ws (h * size + t) 0) blank ∙ search (rules, places) in
-    and_right (inside size h t r) _ (ap (λ (w : ℕ). bit w r) word ∙ bit_zero r)
 
 -- all bits of a word that is in range count
 pub marked_word : (size : ℕ) (words : List ℕ) (h t word r : ℕ) → h < size → t < size → word ≡ get_or words (h * size + t) 0
@@ -130,18 +125,25 @@ module _ (size : ℕ) (words : List ℕ) (whole : size * size ≤ length words) 
           ∙ sym (ap (λ (x : Bool). marked size words a b r && not x) (same_beside a b rights r))
 
 -- the words of one holder are cleared
-module _ (size : ℕ) (words : List ℕ) (whole : size * size ≤ length words) (a row : ℕ) (la : a < size) (begins : row ≡ a * size) where
+module _ (size : ℕ) (words : List ℕ) (whole : size * size ≤ length words) (a row n : ℕ) (zeros : List ℕ) (la : a < size)
+    (begins : row ≡ a * size) (blank : zeros ≡ replicate n 0) (long : n ≡ size) where
   abbrev cleared : List ℕ
-  cleared = put_mid row (row + size - row) words (replicate (row + size - row) 0)
+  cleared = put_mid row (row + size - row) words zeros
 
   within : row + size ≤ length words
   within = omega (arith, mul-le (a + 1) size size size (omega arith) (omega arith), suc-mul a size)
 
+  all_zeros : length zeros ≡ size
+  all_zeros = ap length blank ∙ length-replicate n 0 ∙ long
+
+  zero_at : (k : ℕ) → get_or zeros k 0 ≡ 0
+  zero_at k = ap (λ (zs : List ℕ). get_or zs k 0) blank ∙ search (rules, places)
+
   row_in : (t : ℕ) → t < size → get_or cleared (a * size + t) 0 ≡ 0
-  row_in t lt = search (rules, places)
+  row_in t lt = let z = all_zeros in search (rules, places, zero_at)
 
   row_out : (h t : ℕ) → t < size → (h ≡ a → ⊥) → get_or cleared (h * size + t) 0 ≡ get_or words (h * size + t) 0
-  row_out h t lt other = ⊎_elim before behind (cases_lt h a)
+  row_out h t lt other = let z = all_zeros in ⊎_elim before behind (cases_lt h a)
     where
       before : h < a → get_or cleared (h * size + t) 0 ≡ get_or words (h * size + t) 0
       before less =
@@ -153,8 +155,8 @@ module _ (size : ℕ) (words : List ℕ) (whole : size * size ≤ length words) 
           let below : row + size ≤ h * size = omega (arith, mul-le (a + 1) size h size (omega arith) (omega arith), suc-mul a size) in
           search (rules, places)
 
-  all_cleared : Same (marked size cleared) (dropped a (marked size words))
-  all_cleared h t r = ⊎_elim inner (λ le. beyond le) (cases_lt t size)
+  pub row_cleared : Same (marked size cleared) (dropped a (marked size words))
+  row_cleared h t r = ⊎_elim inner (λ le. beyond le) (cases_lt t size)
     where
       beyond : size ≤ t → marked size cleared h t r ≡ dropped a (marked size words) h t r
       beyond le =
@@ -172,10 +174,3 @@ module _ (size : ℕ) (words : List ℕ) (whole : size * size ≤ length words) 
           elsewhere : (h ≡ a → ⊥) → marked size cleared h t r ≡ dropped a (marked size words) h t r
           elsewhere e =
               ap (λ (w : ℕ). inside size h t r && bit w r) (row_out h t lt e) ∙ sym (dropped_elsewhere a (marked size words) h t r e)
-
-  pub row_cleared : (zeros : List ℕ) → zeros ≡ replicate (length (take (row + size - row) (drop row words))) 0
-      → Same (marked size (put_mid row (row + size - row) words zeros)) (dropped a (marked size words))
-  row_cleared zeros blank =
-      let long : length (take (row + size - row) (drop row words)) ≡ row + size - row = omega (arith, within, length-take (row + size - row) (drop row words), length-drop row words) in
-      subst (λ (zs : List ℕ). Same (marked size (put_mid row (row + size - row) words zs)) (dropped a (marked size words)))
-      (sym (blank ∙ ap (λ (n : ℕ). replicate n 0) long)) all_cleared
