@@ -84,7 +84,7 @@ def together(files):
 
 
 def enums(files):
-    """Enums of one variant with a value and one without, or of two with one value each."""
+    """Enums of two variants of which one has a value: the shape of Option or Result."""
     for path, text in files:
         for name, body in re.findall(r"enum (\w+)[^{]*\{(.*?)^\}", text, re.M | re.S):
             variants = re.findall(r"^    (\w+)(\(|,| \{)", body, re.M)
@@ -92,12 +92,33 @@ def enums(files):
                 yield f"{path}: enum {name}"
 
 
+def numbers_for_kinds(files):
+    """Constants that are matched as a number's kinds, and functions that make a number of a kind or a refusal."""
+    for path, text in files:
+        for name in re.findall(r"^const ([A-Z_]+): u\d+ = ", text, re.M):
+            if re.search(rf"^ +{name} => ", text, re.M):
+                yield f"{path}: const {name}"
+        for name, _, contract, body in functions(text):
+            if re.search(r"-> u\d+$", contract, re.M) and re.search(r"self as u8|=> \d+,|\.number\(\)", body):
+                yield f"{path}: fn {name}"
+        for table in re.findall(r"(\w+): \[\(&\[u8\], u8\); \d+\]", text):
+            yield f"{path}: a table of inputs and the numbers of their refusals"
+
+
+def guards(files):
+    """A call that answers yes or no, and beside it the value that it guards."""
+    for path, text in files:
+        for name, _, _, body in functions(text):
+            for asked in re.findall(r"if !?self\.(\w+)\(", body):
+                yield f"{path}: {name} asks {asked}"
+
+
 def main():
     files = list(sources(sys.argv[1] if len(sys.argv) > 1 else None))
     points = {
         "1 own Option or Result": enums(files),
-        "1 a number for a kind": lines(files, r"^const [A-Z_]+: u\d+ = \d+;$|=> \d+,$|-> u8$|, u8\); \d+\]", True),
-        "1 a flag that guards a value": lines(files, r"if !?self\.\w+\(.*\) \{$"),
+        "1 a number for a kind or a refusal": numbers_for_kinds(files),
+        "1 a yes or no that guards a value": guards(files),
         "2 twins": twins(files),
         "3 loops and counts by hand": lines(files, r"\bfor \w+ in 0\.\.|\bwhile |\bloop \{|enumerate\(\)|\w \+= |saturating_add"),
         "3 loops that an iterator's method writes": lines(files, r"\bfor \w+ in (?!0\.\.)", False),
