@@ -2,7 +2,7 @@
 ghost use Rattle.std.specs.Prelude.{◌≡◌, ℕ, ◌*◌, ◌<◌, MatchBool, IfOk, IfErr};
 ghost use Rattle.board.specs.Boards.{contents_of, place_of, word_of, with_word, AllBits, MissingBit};
 ghost use Rattle.store.specs.Answers.{RefusedUnless};
-ghost use Rattle.store.specs.Contents.{count_of};
+ghost use Rattle.store.specs.Contents.{IsFull, HasSpare};
 ghost use Rattle.store.specs.Ranges.{at, InRange};
 
 use crate::Board;
@@ -39,7 +39,7 @@ impl Board<'_> {
 
     // Does every bit of every word stand?
     pub(super) fn is_full(&self) -> bool
-        ensures { MatchBool result (count_of (contents_of self.now) ≡ (contents_of self.now).limit) (count_of (contents_of self.now) < (contents_of self.now).limit) }
+        ensures { MatchBool result (IsFull (contents_of self.now)) (HasSpare (contents_of self.now)) }
     {
         let words = self.size as usize * self.size as usize;
         self.words[0..words].iter().all(|word| has_all_bits(*word))

@@ -1,5 +1,5 @@
 -- What a store is: its size, its limit and the set of its members.
-use Rattle.std.specs.Prelude.{◌≡◌, ℕ, ◌≤◌, true}
+use Rattle.std.specs.Prelude.{◌≡◌, ℕ, ◌<◌, ◌≤◌, true}
 use Rattle.access.specs.Rules.Sets.{Triples, members, HasRoom}
 use Rattle.store.specs.Ranges.{InRange}
 
@@ -18,6 +18,13 @@ pub record Lawful (c : Contents) : Type 0 where
 
 abbrev pub count_of : Contents → ℕ
 count_of c = members c.size c.holds
+
+-- there are as many members as the limit, or fewer
+abbrev pub IsFull : Contents → Type 0
+IsFull c = count_of c ≡ c.limit
+
+abbrev pub HasSpare : Contents → Type 0
+HasSpare c = count_of c < c.limit
 
 -- the store can take the triple
 abbrev pub Takes : Contents → ℕ → ℕ → ℕ → Type 0

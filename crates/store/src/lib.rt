@@ -6,7 +6,7 @@ ghost use Rattle.access.specs.Rights.{bit};
 ghost use Rattle.access.specs.Rules.Sets.{added, removed, dropped};
 ghost use Rattle.store.specs.Ranges.{at, InRange};
 ghost use Rattle.store.specs.Answers.{OutOfRangeUnless, FullUnless, RefusedUnless, Becomes};
-ghost use Rattle.store.specs.Contents.{Contents, Lawful, Takes, count_of};
+ghost use Rattle.store.specs.Contents.{Contents, IsFull, Lawful, Takes, count_of};
 
 use crate::fault::{OutOfRange, StoreFault};
 use crate::triple::Triple;
@@ -35,7 +35,7 @@ pub trait Store {
 
     // 0 if the store is full; otherwise some number that there is room for.
     fn spare(&self) -> u32
-        ensures full { (result ≡ 0) ↔ (count_of (contents self.now) ≡ (contents self.now).limit) }
+        ensures full { (result ≡ 0) ↔ IsFull (contents self.now) }
         ensures room { result + count_of (contents self.now) ≤ (contents self.now).limit };
 
     // Makes the triple a member. A full store refuses one that is new.
