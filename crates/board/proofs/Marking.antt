@@ -1,6 +1,6 @@
 -- What the words of a board mark, and how a write changes that.
 use borrow.Rule.Slice.PartMut.{put_mid}
-use Rattle.std.proofs.Common.{◌≡◌, ℕ, ◌+◌, ◌-◌, ◌*◌, ◌^◌, ◌<◌, ◌≤◌, Bool, true, false, not, ◌&&◌, ◌||◌, eqb, List, length, get_or, set, replicate, sym, refl, ap, ◌∙◌, ⊎_elim, suc-mul, arith, rules}
+use Rattle.std.proofs.Common.{◌≡◌, ℕ, ◌+◌, ◌*◌, ◌^◌, ◌<◌, ◌≤◌, Bool, true, false, not, ◌&&◌, ◌||◌, eqb, List, length, get_or, set, replicate, Ok, Err, Result, sym, refl, ap, ◌∙◌, ⊎_elim, suc-mul, arith, rules}
 use Rattle.std.proofs.lemmas.Nat.{mul-add-lt, mul-le, same_from_place}
 use Rattle.std.proofs.lemmas.List.{get_or-set_same, get_or-set_other, length-replicate, places}
 use Rattle.std.proofs.lemmas.Bool.{and_left, and_right, cases_eq, cases_lt, eq-eqb}
@@ -9,9 +9,12 @@ use Rattle.access.specs.Rights.{bit}
 use Rattle.access.specs.Rules.Sets.{Triples, same, added, removed, dropped}
 use Rattle.access.proofs.Bits.{bit_past, bit_zero}
 use Rattle.access.proofs.Rules.Membership.{added_elsewhere, dropped_elsewhere, dropped_there, removed_elsewhere}
+use Rattle.std.specs.Result.{IfErr, IfOk}
+use Rattle.store.specs.Answers.{Becomes, RefusedUnless}
 use Rattle.store.specs.Contents.{NowHolds, Same}
+use Rattle.store.specs.declared.fault.Outside.{Outside}
 use Rattle.board.specs.declared.Board.{Board}
-use Rattle.board.specs.Boards.{contents_of, marked}
+use Rattle.board.specs.Boards.{contents_of, marked, memory_of}
 use Rattle.store.specs.Ranges.{inside}
 
 -- all bits of a word that is in range count
@@ -40,6 +43,14 @@ now_holds old new words members size written holds = record {
       ∙ ap (λ (ws : List ℕ). marked old.size ws h t r) written
       ∙ holds h t r;
 }
+
+-- a board that is changed, or refuses and stays as it was
+pub becomes : (old new : Board) (changed : Triples → Triples) (Ranged Changes : Type 0) (r : Result (Unit {0}) Outside)
+    → RefusedUnless Ranged r → IfOk r (λ _. Changes) → IfErr r (λ _. memory_of new ≡ memory_of old) → new.size ≡ old.size
+    → (Ranged → Changes → NowHolds (contents_of old) (contents_of new) (changed (contents_of old).holds))
+    → Becomes r changed (contents_of old) (contents_of new)
+becomes old new changed Ranged Changes (Ok _) range changes keeps size holds = holds range changes
+becomes old new changed Ranged Changes (Err _) range changes keeps size holds = now_holds old new _ _ size keeps (λ h t r. refl)
 
 -- in one word triples differ by their rights alone
 same_beside : (a b k r : ℕ) → same a b k a b r ≡ eqb r k
@@ -125,16 +136,16 @@ module _ (size : ℕ) (words : List ℕ) (whole : size * size ≤ length words) 
           ∙ sym (ap (λ (x : Bool). marked size words a b r && not x) (same_beside a b rights r))
 
 -- the words of one holder are cleared
-module _ (size : ℕ) (words : List ℕ) (whole : size * size ≤ length words) (a row n : ℕ) (zeros : List ℕ) (la : a < size)
-    (begins : row ≡ a * size) (blank : zeros ≡ replicate n 0) (long : n ≡ size) where
+module _ (size : ℕ) (words : List ℕ) (whole : size * size ≤ length words) (a row span n : ℕ) (zeros : List ℕ) (la : a < size)
+    (begins : row ≡ a * size) (spans : span ≡ size) (blank : zeros ≡ replicate n 0) (long : n ≡ size) where
   abbrev cleared : List ℕ
-  cleared = put_mid row (row + size - row) words zeros
+  cleared = put_mid row span words zeros
 
-  within : row + size ≤ length words
+  within : row + span ≤ length words
   within = omega (arith, mul-le (a + 1) size size size (omega arith) (omega arith), suc-mul a size)
 
-  all_zeros : length zeros ≡ size
-  all_zeros = ap length blank ∙ length-replicate n 0 ∙ long
+  all_zeros : length zeros ≡ span
+  all_zeros = ap length blank ∙ length-replicate n 0 ∙ long ∙ sym spans
 
   zero_at : (k : ℕ) → get_or zeros k 0 ≡ 0
   zero_at k = ap (λ (zs : List ℕ). get_or zs k 0) blank ∙ search (rules, places)

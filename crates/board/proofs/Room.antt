@@ -1,5 +1,5 @@
 -- When a board is full.
-use Rattle.std.proofs.Common.{◌≡◌, ℕ, zero, suc, ◌+◌, ◌-◌, ◌*◌, ◌/◌, ◌%◌, ◌<◌, ◌≤◌, Bool, true, false, List, length, get_or, take, ap, subst, ◌∙◌, inl, inr, ⊎_elim, arith, length-take}
+use Rattle.std.proofs.Common.{◌≡◌, ℕ, zero, suc, ◌+◌, ◌*◌, ◌/◌, ◌%◌, ◌<◌, ◌≤◌, Bool, true, false, List, length, get_or, take, ap, subst, ◌∙◌, inl, inr, ⊎_elim, arith, length-take}
 use Rattle.std.proofs.lemmas.Nat.{div-add-mod', div_below, mod_below, mul-add-lt}
 use Rattle.std.proofs.lemmas.Bool.{and_from, and_right, cases_Bool}
 use Rattle.std.proofs.lemmas.Bool.Decides.{nat_tests}
@@ -44,17 +44,17 @@ no_room size words full = members_all size (marked size words) stands
         and_from _ _ ranged (full (h * size + t) place r lr)
 
 -- all words have all bits, or one does not
-module _ (size : ℕ) (words : List ℕ) (whole : size * size ≤ length words) where
+module _ (size n : ℕ) (words : List ℕ) (whole : size * size ≤ length words) (all : n ≡ size * size) where
   abbrev used : List ℕ
-  used = take (size * size - 0) words
+  used = take n words
 
   pub full_or_room : (full : Bool) → MatchBool full (AllWithin AllBits used 0 (length used)) ((k : ℕ) × (k < length used) × HoldsAt MissingBit used k)
       → MatchBool full (members size (marked size words) ≡ size * size * 32) (members size (marked size words) < size * size * 32)
   full_or_room true full = no_room size words (λ k below.
-      subst AllBits (get_or-take (size * size - 0) words k 0 (omega arith)) (full k 0 (omega arith) (omega (arith, length-take (size * size - 0) words))))
+      subst AllBits (get_or-take n words k 0 (omega arith)) (full k 0 (omega arith) (omega (arith, length-take n words))))
   full_or_room false (k, below, missing) =
-      let inside : k < size * size = omega (arith, length-take (size * size - 0) words) in
-      room_left size words k inside (subst MissingBit (get_or-take (size * size - 0) words k 0 (omega arith)) (missing 0))
+      let inside : k < size * size = omega (arith, length-take n words) in
+      room_left size words k inside (subst MissingBit (get_or-take n words k 0 (omega arith)) (missing 0))
 
 -- a board is full only where it has every triple in range
 pub room_for : (size : ℕ) (words : List ℕ) (h t r : ℕ) → InRange size h t r

@@ -1,4 +1,4 @@
--- What is true of every board. The store's ghost members are these facts, so that their proofs stand beside the definitions.
+-- A board is a lawful store. The law is given by this fact, so that its proof stands beside the definitions.
 use Rattle.std.specs.Prelude.{ℕ, ◌*◌, ◌≤◌, List}
 use Rattle.std.proofs.Common.{arith}
 use Rattle.std.proofs.lemmas.Nat.{mul-le}

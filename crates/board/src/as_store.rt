@@ -5,8 +5,9 @@ ghost use Rattle.board.specs.Facts.{marked_lawful};
 use crate::Board;
 use access::word;
 use store::Store;
-use store::fault::{OutOfRange, StoreFault};
+use store::fault::{Outside, StoreFault};
 use store::triple::Triple;
+use store::triple::range::check_entity;
 
 impl<'a> Store for Board<'a> {
     ghost contents = { contents_of };
@@ -18,7 +19,7 @@ impl<'a> Store for Board<'a> {
     }
 
     fn limit(&self) -> u32 {
-        self.size as u32 * self.size as u32 * 32
+        u32::from(self.size) * u32::from(self.size) * 32
     }
 
     fn word(&self, holder: u8, target: u8) -> u32 {
@@ -37,17 +38,14 @@ impl<'a> Store for Board<'a> {
         Ok(())
     }
 
-    fn take(&mut self, triple: Triple) -> Result<(), OutOfRange> {
-        self.change(triple, word::without)?;
-        Ok(())
+    fn take(&mut self, triple: Triple) -> Result<(), Outside> {
+        self.change(triple, word::without)
     }
 
-    fn drop_holder(&mut self, holder: u8) -> Result<(), OutOfRange> {
-        if holder >= self.size {
-            return Err(OutOfRange);
-        }
+    fn drop_holder(&mut self, holder: u8) -> Result<(), Outside> {
+        check_entity(holder, self.size)?;
         let row = self.place(holder, 0);
-        self.words[row..row + self.size as usize].fill(0);
+        self.words[row..row + usize::from(self.size)].fill(0);
         Ok(())
     }
 }

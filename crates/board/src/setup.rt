@@ -3,19 +3,20 @@ ghost use Rattle.std.specs.Prelude.{◌≡◌, length};
 ghost use Rattle.access.specs.Rules.Sets.{none};
 ghost use Rattle.store.specs.Answers.{RefusedUnless};
 ghost use Rattle.store.specs.Contents.{Same};
-ghost use Rattle.board.specs.Boards.{contents_of, Suits};
+ghost use Rattle.board.specs.Boards.{contents_of, memory_of, Suits};
 
 use crate::Board;
-use store::fault::OutOfRange;
-use store::size::is_size;
+use crate::words::count_of;
+use store::fault::Outside;
+use store::size::is_lawful_size;
 
 impl<'a> Board<'a> {
     // Can there be a board of this size in this memory?
-    pub fn check(size: u8, words: &[u32]) -> Result<(), OutOfRange>
+    pub fn check(size: u8, words: &[u32]) -> Result<(), Outside>
         ensures { RefusedUnless (Suits size (length words.now)) result }
     {
-        if !is_size(size) || words.len() != size as usize * size as usize {
-            return Err(OutOfRange);
+        if !is_lawful_size(size) || words.len() != count_of(size) {
+            return Err(Outside);
         }
         Ok(())
     }
@@ -23,7 +24,7 @@ impl<'a> Board<'a> {
     // An empty board. Over memory that the check refuses it has size 0 and writes nothing.
     pub fn new(size: u8, words: &'a mut [u32]) -> Board<'a>
         ensures suits { Suits size (length words.old) → (contents_of result).size ≡ size }
-        ensures refused { (Suits size (length words.old) → ⊥) → ((contents_of result).size ≡ 0) × (result.words.now ≡ words.old) }
+        ensures refused { (Suits size (length words.old) → ⊥) → ((contents_of result).size ≡ 0) × (memory_of result ≡ words.old) }
         ensures empty { Same (contents_of result).holds none }
     {
         if Board::check(size, words).is_err() {

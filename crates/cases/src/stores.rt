@@ -8,7 +8,7 @@ use std::process::Abort;
 use std::test::Fail;
 use store::Store;
 use store::any::{clear, count};
-use store::fault::{OutOfRange, StoreFault};
+use store::fault::{Outside, StoreFault};
 use store::triple::Triple;
 
 #[derive(Clone, Copy)]
@@ -239,7 +239,7 @@ fn full_roll(rt: HostRuntime) {
 // Which memory suits a store of which size. Memory that does not is left as it was.
 fn memory_for<
     T: Copy + PartialEq + Debug + Drop,
-    C: Fn(u8, &[T]) -> Result<(), OutOfRange>,
+    C: Fn(u8, &[T]) -> Result<(), Outside>,
     F: Fn(u8, &mut [T]),
 >(
     rt: &impl Abort,
@@ -254,7 +254,7 @@ fn memory_for<
 {
     for (size, cells, suits) in cases {
         let mut memory = vec![in alloc; old; *cells]?;
-        let expected = if *suits { Ok(()) } else { Err(OutOfRange) };
+        let expected = if *suits { Ok(()) } else { Err(Outside) };
         assert_eq!(rt; check(*size, memory.as_slice()), expected);
         if !*suits {
             unsuited(*size, memory.as_mut_slice());

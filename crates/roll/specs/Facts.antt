@@ -1,4 +1,4 @@
--- What is true of every roll. The store's ghost members are these facts, so that their proofs stand beside the definitions.
+-- A roll is a lawful store. The law is given by the last of these facts, so that its proof stands beside the definitions.
 use Rattle.std.specs.Prelude.{◌≡◌, ℕ, ◌+◌, ◌≤◌, true, List, [], ◌∷◌, length, take, refl}
 use Rattle.std.proofs.Common.{sym, ⊎_elim, add-one, arith, length-take}
 use Rattle.std.proofs.lemmas.Bool.{false≢true, or_cases}

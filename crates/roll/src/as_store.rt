@@ -4,8 +4,9 @@ ghost use Rattle.roll.specs.Rolls.{contents_of};
 
 use crate::{Roll, list};
 use store::Store;
-use store::fault::{OutOfRange, StoreFault};
+use store::fault::{Outside, StoreFault};
 use store::triple::Triple;
+use store::triple::range::check_entity;
 
 impl<'a> Store for Roll<'a> {
     ghost contents = { contents_of };
@@ -40,7 +41,7 @@ impl<'a> Store for Roll<'a> {
         Ok(())
     }
 
-    fn take(&mut self, triple: Triple) -> Result<(), OutOfRange> {
+    fn take(&mut self, triple: Triple) -> Result<(), Outside> {
         triple.check(self.size)?;
         if let Some(place) = self.find(triple) {
             self.free(place);
@@ -48,10 +49,8 @@ impl<'a> Store for Roll<'a> {
         Ok(())
     }
 
-    fn drop_holder(&mut self, holder: u8) -> Result<(), OutOfRange> {
-        if holder >= self.size {
-            return Err(OutOfRange);
-        }
+    fn drop_holder(&mut self, holder: u8) -> Result<(), Outside> {
+        check_entity(holder, self.size)?;
         self.free_all(holder);
         Ok(())
     }

@@ -2,11 +2,11 @@
 ghost use Rattle.std.specs.Prelude.{◌≡◌, ◌<◌, false, slice_index_or};
 ghost use Rattle.access.specs.Rules.Sets.{added, removed, dropped};
 ghost use Rattle.store.specs.Contents.{NowHolds};
-ghost use Rattle.roll.specs.Lists.{listed, Found, blank};
+ghost use Rattle.roll.specs.Lists.{Found, blank};
 ghost use Rattle.store.specs.Ranges.{at, InRange};
 ghost use Rattle.roll.specs.Rolls.{contents_of, used};
 
-use crate::{Roll, list};
+use crate::Roll;
 use store::triple::Triple;
 
 impl Roll<'_> {
@@ -21,11 +21,11 @@ impl Roll<'_> {
     pub(super) fn find(&self, triple: Triple) -> Option<usize>
         ensures { Found (used self.now) triple result }
     {
-        list::place_of(self.used(), triple)
+        self.used().iter().position(|record| *record == triple)
     }
 
     pub(super) fn has(&self, triple: Triple) -> bool
-        ensures { result ≡ at triple (listed (used self.now)) }
+        ensures { result ≡ at triple (contents_of self.now).holds }
     {
         self.find(triple).is_some()
     }
@@ -34,8 +34,8 @@ impl Roll<'_> {
     pub(super) fn push(&mut self, triple: Triple)
         requires room { self.old.len < self.old.limit }
         requires range { at triple (InRange self.old.size) }
-        requires new { at triple (listed (used self.old)) ≡ false }
-        ensures { NowHolds (contents_of self.old) (contents_of self.new) (at triple added (listed (used self.old))) }
+        requires new { at triple (contents_of self.old).holds ≡ false }
+        ensures { NowHolds (contents_of self.old) (contents_of self.new) (at triple added (contents_of self.old).holds) }
     {
         self.records[self.len] = triple;
         self.len += 1;
@@ -44,16 +44,17 @@ impl Roll<'_> {
     // Frees a record. The last one in use takes its place.
     pub(super) fn free(&mut self, place: usize)
         requires { place < self.old.len }
-        ensures { NowHolds (contents_of self.old) (contents_of self.new) (at (slice_index_or (used self.old) place blank) removed (listed (used self.old))) }
+        ensures { NowHolds (contents_of self.old) (contents_of self.new) (at (slice_index_or (used self.old) place blank) removed (contents_of self.old).holds) }
     {
         let last = self.len - 1;
         self.records[place] = self.records[last];
         self.len = last;
     }
 
-    // Frees all records of the holder. The others move up. (A slice has no `retain`, and the memory is the caller's.)
+    // Frees all records of the holder. The others move up: a slice of the caller's memory has no `retain`, and `push` would ask anew whether
+    // each is new.
     pub(super) fn free_all(&mut self, holder: u8)
-        ensures { NowHolds (contents_of self.old) (contents_of self.new) (dropped holder (listed (used self.old))) }
+        ensures { NowHolds (contents_of self.old) (contents_of self.new) (dropped holder (contents_of self.old).holds) }
     {
         let len = self.len;
         self.len = 0;

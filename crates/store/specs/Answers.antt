@@ -1,6 +1,7 @@
 -- How a store answers a call that would change it, and what its members are then.
 use Rattle.std.specs.Prelude.{Ok, Err, Result}
 use Rattle.access.specs.Rules.Sets.{Triples}
+use Rattle.store.specs.declared.fault.Outside.{Outside}
 use Rattle.store.specs.declared.fault.StoreFault.{StoreFault}
 use Rattle.store.specs.declared.fault.StoreFault.TheVariants.{OutOfRange, Full}
 use Rattle.store.specs.Contents.{Contents, NowHolds}
@@ -20,8 +21,8 @@ FullUnless room (Ok _) = room
 FullUnless room (Err OutOfRange) = Unit {0}
 FullUnless room (Err Full) = room → ⊥
 
--- a call that has one way to fail is refused exactly if its numbers are not in range
-abbrev pub RefusedUnless : {E : Type 0} → Type 0 → Result (Unit {0}) E → Type 0
+-- a call that has no other way to fail is refused exactly if its numbers are not in range
+abbrev pub RefusedUnless : Type 0 → Result (Unit {0}) Outside → Type 0
 RefusedUnless ranged (Ok _) = ranged
 RefusedUnless ranged (Err _) = ranged → ⊥
 

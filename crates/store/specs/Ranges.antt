@@ -9,9 +9,13 @@ use Rattle.store.specs.declared.triple.Triple.{Triple}
 abbrev pub at {ℓ} : {X : Type ℓ} → Triple → (ℕ → ℕ → ℕ → X) → X
 at triple said = said triple.holder triple.target triple.rights
 
--- the sizes that a store can have
-abbrev pub IsSize : ℕ → Type 0
-IsSize size = (1 ≤ size) × (size ≤ 128)
+-- the sizes that a store can be set up with
+abbrev pub LawfulSize : ℕ → Type 0
+LawfulSize size = (1 ≤ size) × (size ≤ 128)
+
+-- both are entities of a store of this size
+abbrev pub AreEntities : ℕ → ℕ → ℕ → Type 0
+AreEntities size h t = (h < size) × (t < size)
 
 -- holder and target are below the size, and the rights are a set of rights
 abbrev pub InRange : ℕ → ℕ → ℕ → ℕ → Type 0

@@ -1,6 +1,6 @@
 // A store that is lent is a store: a table can hold one whose owner and memory are elsewhere.
 use crate::Store;
-use crate::fault::{OutOfRange, StoreFault};
+use crate::fault::{Outside, StoreFault};
 use crate::triple::Triple;
 
 impl<'a, S: Store> Store for &'a mut S {
@@ -28,11 +28,11 @@ impl<'a, S: Store> Store for &'a mut S {
         (**self).put(triple)
     }
 
-    fn take(&mut self, triple: Triple) -> Result<(), OutOfRange> {
+    fn take(&mut self, triple: Triple) -> Result<(), Outside> {
         (**self).take(triple)
     }
 
-    fn drop_holder(&mut self, holder: u8) -> Result<(), OutOfRange> {
+    fn drop_holder(&mut self, holder: u8) -> Result<(), Outside> {
         (**self).drop_holder(holder)
     }
 }

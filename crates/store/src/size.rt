@@ -1,12 +1,12 @@
 // The sizes of stores.
 ghost use Rattle.std.specs.Prelude.{◌↔◌, IsTrue};
-ghost use Rattle.store.specs.Ranges.{IsSize};
+ghost use Rattle.store.specs.Ranges.{LawfulSize};
 
 const MAX_SIZE: u8 = 128;
 
-// Can a store have this size, once it is made?
-pub fn is_size(size: u8) -> bool
-    ensures { IsTrue result ↔ IsSize size }
+// Can a store be set up with this size?
+pub fn is_lawful_size(size: u8) -> bool
+    ensures { IsTrue result ↔ LawfulSize size }
 {
     (1..=MAX_SIZE).contains(&size)
 }

@@ -8,4 +8,4 @@ pub struct Triple {
     pub rights: u8,
 }
 
-mod range;
+pub mod range;

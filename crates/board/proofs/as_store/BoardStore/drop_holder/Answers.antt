@@ -9,7 +9,7 @@ returns-clause-drops c =
     record {
       size = refl;
       limit = refl;
-      holds = row_cleared board.size board.words.now board.whole c.args.holder row _ c.fill.new.self (omega arith) (omega arith)
+      holds = row_cleared board.size board.words.now board.whole c.args.holder row _ _ c.fill.new.self (omega arith) (omega arith) (omega arith)
           (c.fill.ensures.after (λ y e. e))
-          (omega (arith, c.place-row.ensures.place, length-take (row + board.size - row) (drop row board.words.now), length-drop row board.words.now));
+          (omega (arith, c.place-row.ensures.place, c.from.ensures, length-take (row + c.from.result - row) (drop row board.words.now), length-drop row board.words.now));
     }

@@ -13,6 +13,6 @@ returns-clause-adds c =
     let board = c.args.self.now in
     let triple = c.args.triple in
     let (lh, lt, lr) = c.in_ok-change.ensures.range in
-    let (word, (stands, _), written) = c.in_ok-change.ensures.changes in
-    now_holds board c.change.new.self _ _ c.change.ensures.size written
-    (marked_put board.size board.words.now board.whole triple.holder triple.target lh lt triple.rights word lr (stands (omega arith)))
+    let changes = c.in_ok-change.ensures.changes in
+    now_holds board c.change.new.self _ _ c.change.ensures.size changes.written
+    (marked_put board.size board.words.now board.whole triple.holder triple.target lh lt triple.rights changes.word lr (changes.such.0 (omega arith)))

@@ -9,8 +9,7 @@ use Rattle.roll.proofs.as_store.RollStore.word.Goals as goal
 pub word_of-requires : goal.word_of-requires
 word_of-requires c =
     let roll = c.args.self.now in
-    subst (λ (l : List Triple). (i : ℕ) → i < length l → (get_or l i blank).rights < 32) (sym c.used.ensures)
-    (λ i below. let (_, _, rights) = apart_at roll.size (used roll) i roll.apart below in omega arith)
+    subst (All (λ (x : Triple). x.rights < 32)) (sym c.used.ensures) ?
 
 pub returns-clause-outside : goal.returns-clause-outside
 returns-clause-outside c out =
