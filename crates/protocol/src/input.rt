@@ -1,6 +1,6 @@
 // The program's input: a size byte, a limit and the sheet's length, each of two bytes with the high one first, then the
 // sheet, and after it the calls.
-ghost use Rattle.std.specs.Prelude.{◌≡◌, Decides, MatchOption};
+ghost use Rattle.std.specs.Prelude.{◌≡◌, ◌↔◌, IsTrue, MatchOption};
 ghost use Rattle.protocol.specs.Inputs.{Cut, InRange, HasPartsOf, Split, ReadsBack, Enough, readable, cut_calls};
 
 use refusal::Refusal;
@@ -17,7 +17,7 @@ const MAX_SHEET: usize = 65_535;
 const MAX_CALLS: usize = 60_000;
 
 // The parts of an input, borrowed from it.
-#[derive(Clone, Copy)]
+#[derive(Clone, Copy, PartialEq, Eq, Debug)]
 pub struct Input<'a> {
     pub size: u8,
     pub limit: u16,
@@ -38,9 +38,7 @@ pub fn split(bytes: &[u8]) -> Result<Input<'_>, Refusal>
     ensures reads_back { ReadsBack bytes.now result }
     ensures enough { Enough readable }
 {
-    let Some(input) = parts(bytes) else {
-        return Err(Refusal::Broken);
-    };
+    let input = parts(bytes).ok_or(Refusal::Broken)?;
     if in_range(input.size, input.limit) {
         Ok(input)
     } else {
@@ -52,32 +50,27 @@ pub fn split(bytes: &[u8]) -> Result<Input<'_>, Refusal>
 fn parts(bytes: &[u8]) -> Option<Input<'_>>
     ensures { MatchOption result (Cut bytes.now) (λ i. (Cut bytes.now → ⊥) × HasPartsOf bytes.now i) }
 {
-    if bytes.len() < HEADER {
-        return None;
-    }
-    let (header, body) = bytes.split_at(HEADER);
-    let len = u16::from_be_bytes([header[3], header[4]]) as usize;
-    if body.len() < len {
-        return None;
-    }
-    let (sheet, rest) = body.split_at(len);
+    let (header, body) = bytes.split_first_chunk::<HEADER>()?;
+    let [size, limit_high, limit_low, len_high, len_low] = *header;
+    let len = u16::from_be_bytes([len_high, len_low]);
+    let (sheet, rest) = body.split_at_checked(usize::from(len))?;
     Some(Input {
-        size: header[0],
-        limit: u16::from_be_bytes([header[1], header[2]]),
+        size,
+        limit: u16::from_be_bytes([limit_high, limit_low]),
         sheet,
         calls: cut_calls(rest),
     })
 }
 
 fn in_range(size: u8, limit: u16) -> bool
-    ensures { Decides result (InRange size limit) }
+    ensures { IsTrue result ↔ InRange size limit }
 {
-    1 <= size && size <= MAX_SIZE && 1 <= limit && limit <= MAX_LIMIT
+    (1..=MAX_SIZE).contains(&size) && (1..=MAX_LIMIT).contains(&limit)
 }
 
 // The bytes of the calls that count.
 fn cut_calls(rest: &[u8]) -> &[u8]
     ensures { result.now ≡ cut_calls rest.now }
 {
-    &rest[0..rest.len().min(MAX_CALLS)]
+    &rest[..MAX_CALLS.min(rest.len())]
 }

@@ -1,14 +1,7 @@
-use crate::input::split;
+use crate::input::{Input, split};
 use crate::line::Line;
+use refusal::answer_number;
 use std::test::Fail;
-
-// The refusal's number, or 0.
-fn answer(bytes: &[u8]) -> u8 {
-    match split(bytes) {
-        Ok(_) => 0,
-        Err(refusal) => u8::from(refusal),
-    }
-}
 
 #[test]
 fn split_answers(rt: HostRuntime) {
@@ -29,18 +22,19 @@ fn split_answers(rt: HostRuntime) {
         (b"\x01\x00\x01\x01\x00abc", 12),
     ];
     for (bytes, expected) in cases {
-        assert_eq!(rt; answer(bytes), expected);
+        assert_eq!(rt; answer_number(split(bytes).map(|_| ())), expected);
     }
 }
 
 #[test]
-fn split_parts(rt: HostRuntime) -> Result<(), Fail> {
-    let input = split(b"\x80\x0f\x02\x00\x03abcdef")?;
-    assert_eq!(rt; input.size, 128);
-    assert_eq!(rt; input.limit, 0x0f02);
-    assert_eq!(rt; input.sheet, b"abc".as_slice());
-    assert_eq!(rt; input.calls, b"def".as_slice());
-    Ok(())
+fn split_parts(rt: HostRuntime) {
+    let input = Input {
+        size: 128,
+        limit: 0x0f02,
+        sheet: b"abc",
+        calls: b"def",
+    };
+    assert_eq!(rt; split(b"\x80\x0f\x02\x00\x03abcdef"), Ok(input));
 }
 
 // Size 1, limit and sheet's length 257, and then more calls than count.
@@ -54,26 +48,26 @@ fn split_cuts_calls(rt: HostRuntime) -> Result<(), Fail> {
 }
 
 #[test]
-fn sheet_lines(rt: HostRuntime) {
-    let cases: [(u8, &[u8]); 3] = [
-        (0, b"sheet 0\n"),
-        (12, b"sheet 12\n"),
-        (255, b"sheet 255\n"),
-    ];
+fn sheet_lines(rt: HostRuntime) -> Result<(), Fail> {
+    let cases = [(0, "sheet 0\n"), (12, "sheet 12\n"), (255, "sheet 255\n")];
     for (answer, expected) in cases {
-        assert_eq!(rt; Line::sheet(answer).as_bytes(), expected);
+        let line = Line::Sheet { answer };
+        assert_eq!(rt; line.to_string(rt.alloc())?.as_str(), expected);
     }
+    Ok(())
 }
 
 #[test]
-fn call_lines(rt: HostRuntime) {
-    let cases: [(u16, u8, &[u8]); 4] = [
-        (1, 0, b"1 0\n"),
-        (10, 12, b"10 12\n"),
-        (60_000, 0, b"60000 0\n"),
-        (65_535, 255, b"65535 255\n"),
+fn call_lines(rt: HostRuntime) -> Result<(), Fail> {
+    let cases = [
+        (1, 0, "1 0\n"),
+        (10, 12, "10 12\n"),
+        (60_000, 0, "60000 0\n"),
+        (65_535, 255, "65535 255\n"),
     ];
     for (position, answer, expected) in cases {
-        assert_eq!(rt; Line::call(position, answer).as_bytes(), expected);
+        let line = Line::Call { position, answer };
+        assert_eq!(rt; line.to_string(rt.alloc())?.as_str(), expected);
     }
+    Ok(())
 }
