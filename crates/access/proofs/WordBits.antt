@@ -1,37 +1,24 @@
--- The bits of a word after one of them was set or cleared, as `word | 1 << k` and `word & !(1 << k)` compute it.
-use Rattle.std.proofs.Common.{◌≡◌, ℕ, ◌-◌, ◌*◌, ◌%◌, ◌^◌, ◌<◌, ◌≤◌, Bool, false, not, ◌&&◌, ◌||◌, eqb, sym, ap, ◌∙◌, ⊎_elim}
+-- The bits of a word after one of them was set or cleared.
+use Rattle.std.proofs.Common.{◌≡◌, ℕ, ◌-◌, ◌^◌, ◌<◌, false, not, ◌&&◌, ◌||◌, eqb, w32, arith, lit<}
 use lib.Bits.{bit_and, bit_or}
-use Rattle.std.proofs.lemmas.Nat.{one_shl, or_comm, pow_below}
-use Rattle.std.proofs.lemmas.Bool.{and_left, both_ways, cases_eq, cases_lt}
+use Rattle.std.proofs.lemmas.Bool.Decides.{nat_tests}
+use Rattle.std.proofs.lemmas.Nat.{one_shl}
+use Rattle.std.proofs.lemmas.Nat.Bits.{bit_at-lt, bit_at-zero, bit_at_above, bit_at_and, bit_at_clear_other, bit_at_clear_same, same_from_bits_below}
 use Rattle.access.specs.Rights.{bit}
-use Rattle.access.proofs.Bits.{bit-bit_and, bit-bit_or, bit_past, bit_power, bit_rest, some_bit}
+use Rattle.access.proofs.Bits.{bit-bit_or, bit_power}
 
-pub bit_set : (word k r : ℕ) → k < 32 → bit (bit_or word ((1 * 2 ^ k) % 4294967296)) r ≡ (eqb r k || bit word r)
-bit_set word k r below =
-    ap (λ (x : ℕ). bit (bit_or word x) r) (one_shl k 32 below)
-    ∙ ap (λ (x : ℕ). bit x r) (or_comm word (2 ^ k))
-    ∙ bit-bit_or (2 ^ k) word r
-    ∙ ap (λ (b : Bool). b || bit word r) (bit_power k r)
+pub bit_set : (word k r : ℕ) → bit (bit_or word (2 ^ k)) r ≡ (eqb r k || bit word r)
+bit_set word k r = rw (bit-bit_or, bit_power) (grind arith)
 
 pub bit_cleared : (word k r : ℕ) → word < 2 ^ 32 → k < 32
-    → bit (bit_and word (4294967295 - (1 * 2 ^ k) % 4294967296)) r ≡ (bit word r && not (eqb r k))
+    → bit (bit_and word (4294967295 - 2 ^ k)) r ≡ (bit word r && not (eqb r k))
 bit_cleared word k r small below =
-    ap (λ (x : ℕ). bit (bit_and word (4294967295 - x)) r) (one_shl k 32 below)
-    ∙ bit-bit_and word (4294967295 - 2 ^ k) r
-    ∙ ⊎_elim within past (cases_lt r 32)
-  where
-    within : r < 32 → (bit word r && bit (4294967295 - 2 ^ k) r) ≡ (bit word r && not (eqb r k))
-    within inside =
-        ap (λ (b : Bool). bit word r && b) (bit_rest 32 (2 ^ k) r (pow_below k 32 below) inside ∙ ap not (bit_power k r))
-
-    past : 32 ≤ r → (bit word r && bit (4294967295 - 2 ^ k) r) ≡ (bit word r && not (eqb r k))
-    past above =
-        let none : bit word r ≡ false = bit_past 32 word r small above in
-        and_left _ _ none ∙ sym (and_left (bit word r) (not (eqb r k)) none)
+    let one = one_shl k 32 below in
+    let same = rw one at (bit_at_clear_same w32 word k below) in
+    let other = rw one at (bit_at_clear_other w32 word k below r) in
+    grind (arith, nat_tests, same, other, bit_at_and word (4294967295 - 2 ^ k) r, bit_at_above word 32 r small)
 
 -- a word without bits is 0
 pub no_bits : (word : ℕ) → word < 2 ^ 32 → ((r : ℕ) → bit word r ≡ false) → word ≡ 0
-no_bits word small none = ⊎_elim (λ e. e) some (cases_eq word 0)
-  where
-    some : (word ≡ 0 → ⊥) → word ≡ 0
-    some more = let (r, _, stands) = some_bit 32 word small more in absurd (both_ways (bit word r) (none r) stands)
+no_bits word small none =
+    same_from_bits_below 32 word 0 small (lit< tt) (λ r below. grind (arith, nat_tests, none r, bit_at-lt word r, bit_at-zero r))

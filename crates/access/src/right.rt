@@ -1,9 +1,7 @@
 // The five rights.
 ghost use Rattle.std.specs.Prelude.{◌≡◌, true, ◌↔◌};
-ghost use Rattle.access.specs.Rights.{position, value, has};
+ghost use Rattle.access.specs.Rights.{value, has};
 ghost use Rattle.access.specs.Words.{mask, InSome};
-
-use crate::word;
 
 // A set of rights is the sum of their values, 0 to 31.
 #[derive(Clone, Copy, PartialEq, Eq, Debug)]
@@ -18,18 +16,30 @@ pub enum Right {
 // The set of all five.
 pub const ALL_RIGHTS: u8 = 31;
 
-impl Right {
-    pub fn value(self) -> u8
-        ensures { result ≡ value self }
-    {
-        self as u8
+// The value of a right.
+impl From<Right> for u8 {
+    ghost from_gives = { λ right n. n ≡ value right };
+
+    fn from(right: Right) -> u8 {
+        right as u8
     }
+}
+
+impl Right {
+    // All five, in the order of their values.
+    pub const ALL: [Right; 5] = [
+        Right::Read,
+        Right::Write,
+        Right::Grant,
+        Right::Create,
+        Right::Store,
+    ];
 
     // Is this right in the set?
     pub fn is_in(self, rights: u8) -> bool
         ensures { result ≡ has self rights }
     {
-        word::bit(rights as u32, self.position())
+        rights & u8::from(self) != 0
     }
 
     // Has some set that stands in the word this right?
@@ -39,19 +49,7 @@ impl Right {
         word & self.mask() != 0
     }
 
-    fn position(self) -> u8
-        ensures { result ≡ position self }
-    {
-        match self {
-            Right::Read => 0,
-            Right::Write => 1,
-            Right::Grant => 2,
-            Right::Create => 3,
-            Right::Store => 4,
-        }
-    }
-
-    // Every set with this right, as a word.
+    // Every set with this right, as a word. It is written out, since what a loop would count is known before.
     fn mask(self) -> u32
         ensures { result ≡ mask self }
     {
