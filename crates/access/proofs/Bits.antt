@@ -1,5 +1,5 @@
 -- The bits of numbers, as tests.
-use Rattle.std.proofs.Common.{◌≡◌, ℕ, zero, suc, ◌-◌, ◌*◌, ◌/◌, ◌%◌, ◌^◌, ◌<◌, ◌≤◌, min, max, Bool, true, false, not, ◌&&◌, ◌||◌, eqb, ap, ◌∙◌, ⊎_elim, arith}
+use Rattle.std.proofs.Common.{◌≡◌, ℕ, zero, suc, ◌-◌, ◌*◌, ◌/◌, ◌%◌, ◌^◌, ◌<◌, ◌≤◌, Bool, true, false, not, ◌&&◌, ◌||◌, eqb, ap, ⊎_elim, arith}
 use lib.Bits.{bit_and, bit_or}
 use Rattle.std.specs.Int.{bit_at}
 use Rattle.std.proofs.Math.Nat.{pow-succ'}
@@ -21,10 +21,10 @@ pub bit_half : (n k : ℕ) → bit n (suc k) ≡ bit (n / 2) k
 bit_half n k = ap is_one (bit_at-suc n k)
 
 pub bit_lowest : (n : ℕ) → bit n 0 ≡ eqb (n % 2) 1
-bit_lowest n = ap is_one (bit_at_lowest n)
+bit_lowest n = grind arith
 
 pub bit_zero : (k : ℕ) → bit 0 k ≡ false
-bit_zero k = ap is_one (bit_at-zero k)
+bit_zero k = grind arith
 
 -- the largest number of a width has all its bits
 pub bit_largest : (width k : ℕ) → k < width → bit (2 ^ width - 1) k ≡ true
@@ -32,24 +32,18 @@ bit_largest width k below = ap is_one (bit_at_ones width k below)
 
 -- a bit of two numbers' common part stands if it stands in both
 pub bit-bit_and : (a b k : ℕ) → bit (bit_and a b) k ≡ (bit a k && bit b k)
-bit-bit_and a b k = ap is_one (bit_at_and a b k) ∙ both (bit_at a k) (bit_at b k) (bit_at-lt a k) (bit_at-lt b k)
-  where
-    both : (x y : ℕ) → x < 2 → y < 2 → is_one (min x y) ≡ (is_one x && is_one y)
-    both x y one_x one_y = grind (arith, nat_tests)
+bit-bit_and a b k = grind (arith, bit_at_and)
 
 pub bit-bit_or : (a b k : ℕ) → bit (bit_or a b) k ≡ (bit a k || bit b k)
-bit-bit_or a b k = ap is_one (bit_at_or a b k) ∙ either (bit_at a k) (bit_at b k) (bit_at-lt a k) (bit_at-lt b k)
-  where
-    either : (x y : ℕ) → x < 2 → y < 2 → is_one (max x y) ≡ (is_one x || is_one y)
-    either x y one_x one_y = grind (arith, nat_tests)
+bit-bit_or a b k = grind (arith, bit_at_or)
 
 -- a power of two has one bit
 pub bit_power : (j k : ℕ) → bit (2 ^ j) k ≡ eqb k j
-bit_power j k = grind (arith, nat_tests, bit_at-pow_same, bit_at-pow_other)
+bit_power j k = grind (arith, bit_at-pow_same, bit_at-pow_other)
 
 -- a bit stands if the number has something in common with that power of two
 pub bit_in_common : (n k : ℕ) → not (eqb (bit_and n (2 ^ k)) 0) ≡ bit n k
-bit_in_common n k = grind (arith, nat_tests, and_pow n k, pow_pos k, bit_at-lt n k)
+bit_in_common n k = grind (arith, and_pow n k)
 
 pub power_double : (k : ℕ) → 2 ^ suc k ≡ 2 * 2 ^ k
 power_double = pow-succ' 2

@@ -1,25 +1,23 @@
 -- A word and a right's mask have a bit in common exactly if some set that stands in the word has the right.
-use Rattle.std.proofs.Common.{◌≡◌, ℕ, zero, suc, ◌^◌, ◌<◌, Bool, true, false, not, ◌&&◌, eqb, ◌↔◌, sym, refl, ap, ◌∙◌, arith}
+use Rattle.std.proofs.Common.{◌≡◌, ℕ, zero, suc, ◌^◌, ◌<◌, Bool, true, false, not, ◌&&◌, eqb, ◌↔◌, sym, refl, ◌∙◌, arith}
 use lib.Bits.{bit_and, and_le_l}
-use Rattle.std.proofs.lemmas.Bool.{and_from, and_parts, eqb-false, ne_eqb, not-true, not_from_false, false≢true}
+use Rattle.std.proofs.lemmas.Bool.{and_parts, eqb-false, not-true}
 use Rattle.std.proofs.lemmas.Bool.Decides.{Decides-below_and}
 use Rattle.access.specs.declared.right.Right.{Right}
 use Rattle.access.specs.declared.right.Right.TheVariants.{Read, Write, Grant, Create, Store}
 use Rattle.access.specs.Rights.{bit, has}
 use Rattle.access.specs.Words.{mask, InSome}
-use Rattle.access.proofs.Bits.{bit-bit_and, bit_past, some_bit}
+use Rattle.access.proofs.Bits.{bit-bit_and, bit_zero, some_bit}
 
 abbrev agree : Bool → Bool → Bool
 agree true b = b
 agree false b = not b
 
 agree_same : (a b : Bool) → agree a b ≡ true → a ≡ b
-agree_same true b e = sym e
-agree_same false b e = sym (not-true b e)
+agree_same = grind arith
 
 same_agree : (a b : Bool) → a ≡ b → agree a b ≡ true
-same_agree true b e = sym e
-same_agree false b e = not_from_false b (sym e)
+same_agree = grind arith
 
 abbrev masked : Right → ℕ → Bool
 masked right zero = true
@@ -50,7 +48,5 @@ in_some right word small = (there, back)
         (rights, below, in_word, sym (bit_mask right rights below) ∙ in_mask)
 
     back : InSome right word → not (eqb (bit_and word (mask right)) 0) ≡ true
-    back (rights, below, in_word, Has_right) =
-        let stands = bit-bit_and word (mask right) rights ∙ and_from _ _ in_word (bit_mask right rights below ∙ Has_right) in
-        not_from_false _ (ne_eqb (bit_and word (mask right)) 0
-        (λ e. false≢true (sym (bit_past 0 0 rights (omega arith) (omega arith)) ∙ ap (λ (x : ℕ). bit x rights) (sym e) ∙ stands)))
+    back (rights, below, in_word, has_right) =
+        grind (arith, bit-bit_and word (mask right) rights, bit_mask right rights, bit_zero rights)

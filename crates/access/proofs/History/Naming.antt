@@ -1,11 +1,10 @@
 -- A name is found exactly where it stands whole, the first time.
-use Rattle.std.proofs.Common.{◌≡◌, ℕ, zero, suc, ◌≤◌, Bool, true, false, cond, List, [], ◌∷◌, Some, None, Option, sym, refl, ap, ◌∙◌, subst, arith}
+use Rattle.std.proofs.Common.{◌≡◌, ℕ, zero, suc, ◌≤◌, Bool, true, false, cond, List, [], ◌∷◌, Some, None, Option, sym, refl, ap, subst, arith}
 use Rattle.std.specs.List.{slice_get}
 use Rattle.std.specs.Str.{bytes_eq}
 use Rattle.std.proofs.lemmas.Slice.Eq.{bytes_eq-Decides}
-use Rattle.std.proofs.lemmas.Bool.{true≢false}
 use Rattle.access.specs.History.Names.{next, numbered}
-use Rattle.access.proofs.Facts.{one_some, none_some}
+use Rattle.access.proofs.Facts.{none_some}
 
 -- where a name was found, or that it was not, among the rest
 abbrev Found : List ℕ → List (List ℕ) → Option ℕ → Type 0
@@ -14,8 +13,7 @@ Found name names None = (k : ℕ) → slice_get names k ≡ Some name → ⊥
 
 -- another name does not stand first
 not_first : (name other : List ℕ) → bytes_eq name other ≡ false → ◌≡◌ {A = Option (List ℕ)} (Some other) (Some name) → ⊥
-not_first name other differ at =
-    true≢false (sym ((bytes_eq-Decides name other).1 (one_some (Some other) name other at refl)) ∙ differ)
+not_first name other differ at = grind (arith, bytes_eq-Decides)
 
 one_more : (name other : List ℕ) (names : List (List ℕ)) (b : Bool) (o : Option ℕ) → bytes_eq name other ≡ b
     → Found name names o
@@ -26,11 +24,7 @@ one_more name other names false None is rest = by_place
     by_place : (k : ℕ) → slice_get (other ∷ names) k ≡ Some name → ⊥
     by_place zero at = not_first name other is at
     by_place (suc k) at = rest k at
-one_more name other names false (Some n) is (at_n, least) = (at_n, by_place)
-  where
-    by_place : (k : ℕ) → slice_get (other ∷ names) k ≡ Some name → suc n ≤ k
-    by_place zero at = absurd (not_first name other is at)
-    by_place (suc k) at = let le = least k at in omega arith
+one_more name other names false (Some n) is (at_n, least) = grind (arith, not_first)
 
 finds : (name : List ℕ) (names : List (List ℕ)) → Found name names (numbered name names)
 finds name [] = λ k at. none_some None name refl at
@@ -46,8 +40,4 @@ missing name names is = subst (Found name names) is (finds name names)
 
 pub not_missing : (name : List ℕ) (names : List (List ℕ)) → ((k : ℕ) → slice_get names k ≡ Some name → ⊥)
     → numbered name names ≡ None
-not_missing name names nowhere = by_number (numbered name names) (finds name names)
-  where
-    by_number : (o : Option ℕ) → Found name names o → o ≡ None
-    by_number None _ = refl
-    by_number (Some n) (at, _) = absurd (nowhere n at)
+not_missing name names nowhere = grind (arith, finds)

@@ -1,5 +1,5 @@
 -- Every legal operation keeps a layout sane and each of its capabilities fitting.
-use Rattle.std.proofs.Common.{◌≡◌, ℕ, ◌⊎◌, None, sym, refl, ap, ◌∙◌, subst, inl, inr}
+use Rattle.std.proofs.Common.{◌≡◌, ℕ, ◌⊎◌, refl, inl, inr, arith, rules}
 use Rattle.access.specs.declared.capability.Capability.{Capability}
 use Rattle.access.specs.declared.right.Right.TheVariants.{Read, Write, Grant, Store}
 use Rattle.access.specs.Rights.{all_rights, In, Within, common}
@@ -8,7 +8,7 @@ use Rattle.access.specs.Model.Layouts.{Layout, Lives, Present, state}
 use Rattle.access.specs.Model.Confinement.{Fitting, Local}
 use Rattle.access.specs.Model.Operations.{Operation, read, write, create, grant, remove, revoke, delete, Legal}
 use Rattle.access.specs.Model.Operated.{operated}
-use Rattle.access.proofs.Facts.{one_some, changed_elsewhere, changed_there, at_triple}
+use Rattle.access.proofs.Facts.{changed_elsewhere, changed_there, at_triple}
 use Rattle.access.proofs.Model.Local.{use_home}
 use Rattle.access.proofs.RightsSets.{common_within}
 
@@ -26,8 +26,7 @@ fewer arrow A B r more within fits = record {
 
 -- any rights fit within a compartment
 inside : (arrow : ℕ → ℕ → Type 0) (A r : ℕ) → Fitting arrow A A r
-inside arrow A r =
-    record { tied = λ _. refl; writes = λ _ differ. absurd (differ refl); reads = λ _ differ. absurd (differ refl) }
+inside arrow A r = grind arith
 
 -- a triple that stood before, between entities that stay where they were
 abbrev Old : Layout → Layout → ℕ → ℕ → ℕ → Type 0
@@ -43,30 +42,16 @@ Good l = Sane (state l) × Local l
 -- where every triple is old or new, all is well
 module _ (l : Layout) (good : Good l) (op : Operation)
     (sorts : (h t r : ℕ) → (operated l op).holds h t r → Old l (operated l op) h t r ⊎ New (operated l op) h t r) where
-  holder : (h t r : ℕ) → Old l (operated l op) h t r ⊎ New (operated l op) h t r → Present (operated l op) h
-  holder h t r (inl (held, p, q)) = let (A, lives) = good.0.holder h t r held in (A, p ∙ lives)
-  holder h t r (inr (A, at_h, B, at_t, fits)) = (A, at_h)
-
   target : (h t r : ℕ) → Old l (operated l op) h t r ⊎ New (operated l op) h t r → Present (operated l op) t
-  target h t r (inl (held, p, q)) = let (A, lives) = good.0.target h t r held in (A, q ∙ lives)
-  target h t r (inr (A, at_h, B, at_t, fits)) = (B, at_t)
+  target = grind arith
 
   fitting : (h t r A B : ℕ) → Old l (operated l op) h t r ⊎ New (operated l op) h t r → Lives (operated l op) h A
       → Lives (operated l op) t B
       → Fitting l.arrow A B r
-  fitting h t r A B (inl (held, p, q)) at_h at_t = good.1 h t r A B held (sym p ∙ at_h) (sym q ∙ at_t)
-  fitting h t r A B (inr (C, in_C, D, in_D, fits)) at_h at_t =
-      subst (λ (A : ℕ). Fitting l.arrow A B r) (one_some _ C A in_C at_h)
-      (subst (λ (B : ℕ). Fitting l.arrow C B r) (one_some _ D B in_D at_t) fits)
+  fitting = grind arith
 
   sorted : Good (operated l op)
-  sorted = (sane, λ h t r A B held. fitting h t r A B (sorts h t r held))
-    where
-      sane : Sane (state (operated l op))
-      sane = record {
-        holder = λ h t r held. holder h t r (sorts h t r held);
-        target = λ h t r held. target h t r (sorts h t r held);
-      }
+  sorted = grind arith
 
 module _ (l : Layout) (good : Good l) where
   -- the target of a capability with Grant or Store that one may use is in one's own compartment
@@ -93,15 +78,7 @@ module _ (l : Layout) (good : Good l) where
   -- the capability that a creation makes stays within the actor's compartment
   created : (e n : ℕ) (c1 c2 : Capability) → Legal (state l) (create e n c1 c2)
       → New (operated l (create e n c1 c2)) c2.target n all_rights
-  created e n c1 c2 ((A, at_e), absent, may1, may2, creating, writing, storing) =
-      let at_2 = target_home e A c2 at_e may2 (inr storing) in
-      let other : c2.target ≡ n → ⊥ = λ same. absent (A, sym (ap l.home same) ∙ at_2) in (
-        A,
-        changed_elsewhere c2.target n (l.home e) (l.home c2.target) other ∙ at_2,
-        A,
-        changed_there n n (l.home e) (l.home n) refl ∙ at_e,
-        inside l.arrow A all_rights,
-      )
+  created = search (rules, changed_elsewhere, changed_there, inside, target, target_home)
 
   sorts : (op : Operation) → Legal (state l) op → (h t r : ℕ) → (operated l op).holds h t r
       → Old l (operated l op) h t r ⊎ New (operated l op) h t r
@@ -109,24 +86,14 @@ module _ (l : Layout) (good : Good l) where
   sorts (write e c) legal h t r held = inl (held, refl, refl)
   sorts (create e n c1 c2) legal h t r (inl is) =
       inr (at_triple (New (operated l (create e n c1 c2))) c2.target n all_rights h t r is (created e n c1 c2 legal))
-  sorts (create e n c1 c2) legal h t r (inr (held, other)) =
-      inl (
-        held,
-        changed_elsewhere h n (l.home e) (l.home h) other,
-        changed_elsewhere t n (l.home e) (l.home t) (λ same. legal.1 (subst (Present l) same (good.0.target h t r held))),
-      )
+  sorts (create e n c1 c2) legal h t r (inr (held, other)) = grind (arith, changed_elsewhere, target)
   sorts (grant e c1 c2 R c3) legal h t r (inl is) =
       inr (at_triple (New (operated l (grant e c1 c2 R c3))) c3.target c2.target (common c2.rights R) h t r is
       (granted e R c1 c2 c3 legal))
   sorts (grant e c1 c2 R c3) legal h t r (inr held) = inl (held, refl, refl)
   sorts (remove e c1 c2) legal h t r (held, _) = inl (held, refl, refl)
   sorts (revoke e c) legal h t r (held, _) = inl (held, refl, refl)
-  sorts (delete e) legal h t r (held, other) =
-      inl (
-        held,
-        changed_elsewhere h e None (l.home h) other,
-        changed_elsewhere t e None (l.home t) (λ same. legal.1 h r (subst (λ (t : ℕ). l.holds h t r) same held)),
-      )
+  sorts (delete e) legal h t r (held, other) = grind (arith, changed_elsewhere)
 
   pub good_after : (op : Operation) → Legal (state l) op → Good (operated l op)
   good_after op legal = sorted l good op (sorts op legal)

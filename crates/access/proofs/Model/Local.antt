@@ -1,5 +1,5 @@
 -- Separation and flow are a matter of each capability alone.
-use Rattle.std.proofs.Common.{◌≡◌, ℕ, ◌⊎◌, sym, ◌∙◌, subst, inl, inr, ⊎_elim}
+use Rattle.std.proofs.Common.{◌≡◌, ℕ, ◌⊎◌, sym, ◌∙◌, subst, inl, inr, ⊎_elim, arith}
 use Rattle.std.proofs.lemmas.Bool.{cases_eq}
 use Rattle.access.specs.declared.capability.Capability.{Capability}
 use Rattle.access.specs.declared.right.Right.TheVariants.{Read, Write, Grant, Store}
@@ -32,8 +32,7 @@ module _ (l : Layout) (sane : Sane (state l)) where
         one_some (l.home z) A B (reach_home x z A p from_x) (reach_home y z B q from_y)
 
     pub separate : Separate l
-    separate x y A B p q (inl leaks) = leaks_home x y A B p q leaks
-    separate x y A B p q (inr leaks) = sym (leaks_home y x B A q p leaks)
+    separate = grind (arith, leaks_home)
 
     pub flow : Flow l
     flow A B (apart, x, y, p, q, inl (r, (z, reach, held), write)) =
@@ -54,20 +53,13 @@ module _ (l : Layout) (sane : Sane (state l)) where
       reads : In Read r → (A ≡ B → ⊥) → l.arrow B A
       reads read differ = flows B A (λ e. differ (sym e), t, h, q, p, inr (r, (h, here, held), read))
 
-  reached_present : (x z : ℕ) → Reaches (state l) x z → Present l x → Present l z
-  reached_present x z here p = p
-  reached_present x z (step {y = y} c (r, held, store)) p = sane.target y z r held
-
   reaching_present : (x z : ℕ) → Reaches (state l) x z → Present l z → Present l x
   reaching_present x z here p = p
   reaching_present x z (step {y = y} c (r, held, store)) p = reaching_present x y c (sane.holder y z r held)
 
   -- connections of a present entity are with present ones
   connected_present : (x y : ℕ) → Connected (state l) x y → Present l x → Present l y
-  connected_present x y (inl (inl (r, (z, reach, held), grant))) p = sane.target z y r held
-  connected_present x y (inl (inr (z, from_x, from_y))) p = reaching_present y z from_y (reached_present x z from_x p)
-  connected_present x y (inr (inl (r, (z, reach, held), grant))) p = reaching_present y z reach (sane.holder z x r held)
-  connected_present x y (inr (inr (z, from_y, from_x))) p = reaching_present y z from_y (reached_present x z from_x p)
+  connected_present = grind (arith, reaching_present)
 
   chained_present : (x y : ℕ) → Chain (Connected (state l)) x y → Present l x → Present l y
   chained_present x y here p = p

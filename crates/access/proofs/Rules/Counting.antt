@@ -1,21 +1,17 @@
 -- How many members a set of triples has.
-use Rattle.std.proofs.Common.{◌≡◌, ℕ, zero, suc, ◌+◌, ◌*◌, ◌/◌, ◌%◌, ◌^◌, ◌<◌, ◌≤◌, Bool, true, false, cond, eqb, ◌⊎◌, sym, refl, ap, ◌∙◌, subst, inl, inr, ⊎_elim, mul_assoc, suc-mul, mul-zero, zero-mul, add-one, arith}
+use Rattle.std.proofs.Common.{◌≡◌, ℕ, zero, suc, ◌+◌, ◌*◌, ◌/◌, ◌^◌, ◌<◌, ◌≤◌, Bool, true, false, cond, ◌⊎◌, sym, refl, ap, ◌∙◌, subst, ⊎_elim, mul_assoc, suc-mul, mul-zero, zero-mul, arith}
 use lib.Count.{ones, ones-le, ones_step}
-use Rattle.std.proofs.lemmas.Bool.{cases_Bool, cases_eq, cases_lt}
-use Rattle.std.proofs.lemmas.Bool.Decides.{nat_tests}
+use Rattle.std.proofs.lemmas.Bool.{cases_eq}
 use Rattle.access.specs.Rights.{bit}
 use Rattle.access.specs.Rules.Sets.{Triples, none, added, removed, total, over, held_by, members}
 use Rattle.access.specs.Model.Operations.{Is}
 use Rattle.access.proofs.Bits.{bit_half, bit_lowest, power_double}
-use Rattle.access.proofs.Rules.Membership.{added_again, added_elsewhere, added_removed, added_there, removed_there}
+use Rattle.access.proofs.Rules.Membership.{added_elsewhere, added_removed, added_there, removed_there}
 
 pub total_same : (f g : ℕ → ℕ) (n : ℕ) → ((k : ℕ) → k < n → g k ≡ f k) → total g n ≡ total f n
 unfolding total
 total_same f g zero same = refl
-total_same f g (suc n) same =
-    let before : total g n ≡ total f n = total_same f g n (λ k l. same k (omega arith)) in
-    let here : g n ≡ f n = same n (omega arith) in
-    omega arith
+total_same f g (suc n) same = grind (arith, total_same f g n)
 
 pub total_const : (f : ℕ → ℕ) (m n : ℕ) → ((k : ℕ) → k < n → f k ≡ m) → total f n ≡ n * m
 unfolding total
@@ -31,7 +27,7 @@ total_le f m (suc n) each = omega (arith, total_le f m n each, each n, suc-mul n
 -- a sum with one term more
 pub total_more : (f : ℕ → ℕ) (n : ℕ) → total f (n + 1) ≡ total f n + f n
 unfolding total
-total_more f n = ap (total f) (add-one n)
+total_more f n = grind arith
 
 -- a sum's first term
 total_first : (f : ℕ → ℕ) (n : ℕ) → total f (suc n) ≡ f 0 + total (λ k. f (suc k)) n
@@ -61,8 +57,7 @@ abbrev counted : Bool → ℕ
 counted b = cond b 1 0
 
 at_most_one : (b : Bool) → counted b ≤ 1
-at_most_one true = omega arith
-at_most_one false = omega arith
+at_most_one = grind arith
 
 pub members_le : (size : ℕ) (set : Triples) → members size set ≤ size * size * 32
 unfolding members
@@ -79,14 +74,7 @@ abbrev pub Counts : ℕ → ℕ → ℕ → ℕ → Type 0
 Counts size h t r = (h < size) × (t < size) × (r < 32)
 
 pub counts_or_not : (size h t r : ℕ) → Counts size h t r ⊎ (Counts size h t r → ⊥)
-counts_or_not size h t r =
-    ⊎_elim
-    (λ lh. ⊎_elim
-    (λ lt. ⊎_elim (λ lr. inl (lh, lt, lr)) (λ no_r. inr (λ (_, _, lr). omega arith)) (cases_lt r 32))
-    (λ no_t. inr (λ (_, lt, _). omega arith))
-    (cases_lt t size))
-    (λ no_h. inr (λ (lh, _, _). omega arith))
-    (cases_lt h size)
+counts_or_not size h t r = grind arith
 
 -- the two sets have the same triples that are counted
 abbrev pub SameCounts : ℕ → Triples → Triples → Type 0
@@ -144,22 +132,10 @@ module _ (size x y z : ℕ) (set : Triples) where
 
   -- one that is not counted
   pub members_added_outside : (Counts size x y z → ⊥) → members size (added x y z set) ≡ members size set
-  members_added_outside outside =
-      members_same size set (added x y z set)
-      (λ h t r (lh, lt, lr). added_elsewhere x y z set h t r (λ (p, q, s). outside (omega arith, omega arith, omega arith)))
+  members_added_outside outside = grind (arith, members_same)
 
   pub members_added_le : members size (added x y z set) ≤ members size set + 1
-  members_added_le = ⊎_elim again new (cases_Bool (set x y z))
-    where
-      again : set x y z ≡ true → members size (added x y z set) ≤ members size set + 1
-      again held = omega (arith, members_same size set (added x y z set) (λ h t r _. added_again x y z set h t r held))
-
-      new : set x y z ≡ false → members size (added x y z set) ≤ members size set + 1
-      new absent =
-          ⊎_elim
-          (λ counts. omega (arith, members_added counts absent))
-          (λ outside. omega (arith, members_added_outside outside))
-          (counts_or_not size x y z)
+  members_added_le = grind (arith, members_added, members_same)
 
 pub members_removed : (size x y z : ℕ) (set : Triples) → Counts size x y z → set x y z ≡ true
     → members size set ≡ members size (removed x y z set) + 1
@@ -172,16 +148,7 @@ pub bits_counted : (width n : ℕ) → n < 2 ^ width → total (λ k. counted (b
 bits_counted zero n small =
     let fits = ones-le 0 n small in
     omega (arith, total_le (λ k. counted (bit n k)) 1 0 (λ k. at_most_one (bit n k)))
-bits_counted (suc width) n small =
-    let double = power_double width in
-    let more : total (λ k. counted (bit n (suc k))) width ≡ ones (n / 2) =
-    total_same (λ k. counted (bit (n / 2) k)) (λ k. counted (bit n (suc k))) width (λ k _. ap counted (bit_half n k))
-    ∙ bits_counted width (n / 2) (omega arith) in
-    let lowest : counted (bit n 0) ≡ n % 2 = ap counted (bit_lowest n) ∙ digit n in
-    omega (arith, total_first (λ k. counted (bit n k)) width, ones_step n)
-  where
-    digit : (n : ℕ) → counted (eqb (n % 2) 1) ≡ n % 2
-    digit n = grind (arith, nat_tests)
+bits_counted (suc width) n small = grind (arith, bits_counted width (n / 2), bit_half, bit_lowest, ones_step, power_double, total_first, total_same)
 
 -- how many capabilities a word stands for
 pub over_ones : (set : Triples) (h t word : ℕ) → word < 2 ^ 32 → ((r : ℕ) → bit word r ≡ set h t r) → over set h t ≡ ones word

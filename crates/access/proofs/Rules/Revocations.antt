@@ -1,11 +1,9 @@
 -- What a revoke takes and what it leaves.
-use Rattle.std.proofs.Common.{ℕ, refl}
+use Rattle.std.proofs.Common.{ℕ, arith}
 use Rattle.access.specs.declared.capability.Capability.{Capability}
 use Rattle.access.specs.Chains.{here, step}
 use Rattle.access.specs.Model.States.{State, Reaches}
-use Rattle.access.specs.Model.Layouts.{state}
 use Rattle.access.specs.Model.Operations.{revoke, effect}
-use Rattle.access.specs.Rules.Views.{layout}
 use Rattle.access.specs.Rules.Revoking.{Revoking}
 use Rattle.access.proofs.RightsSets.{common_within}
 
@@ -16,10 +14,4 @@ still_reaches s e z c (step {y = y} chain (r, held, storing)) =
     step (still_reaches s e y c chain) (r, (held, λ (_, _, out). out chain), storing)
 
 pub revoking : Revoking
-revoking = record {
-  takes_copies = λ v e h R c out (held, spared). spared (refl, common_within c.rights R, out);
-  leaves_wider = λ v e h t r c right has lacks held. (held, λ (_, within, _). lacks (within right has));
-  leaves_others = λ v e h t r c other held. (held, λ (is, _, _). other is);
-  leaves_actor =
-      λ v e c other (z, reach, held). (z, still_reaches (state (layout v)) e z c reach, (held, λ (_, _, out). out reach));
-}
+revoking = grind (arith, common_within, still_reaches)

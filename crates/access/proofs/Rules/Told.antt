@@ -1,6 +1,6 @@
 -- What a refused accept tells is there to tell.
 use Rattle.std.proofs.Common.{◌≡◌, ℕ, zero, suc, ◌<◌, ◌≤◌, ◌⊎◌, sym, ◌∙◌, subst, inl, inr, ⊎_elim, arith}
-use Rattle.std.proofs.lemmas.Bool.{cases_Bool, cases_eq, cases_lt, true≢false}
+use Rattle.std.proofs.lemmas.Bool.{cases_eq, cases_lt}
 use Rattle.access.specs.Chains.{Chain, here, step}
 use Rattle.access.specs.Model.States.{Connected}
 use Rattle.access.specs.Model.Layouts.{Lives, state}
@@ -29,14 +29,12 @@ lowest P none n = below (suc n) n (omega arith)
         none k p (λ j q. ⊎_elim (λ lower. absurd (below bound j (omega arith) q)) (λ higher. higher) (cases_lt j k))
 
 swapped : (v : View) (x y : ℕ) → Connected (state (layout v)) x y → Connected (state (layout v)) y x
-swapped v x y (inl leaks) = inr leaks
-swapped v x y (inr leaks) = inl leaks
+swapped = grind arith
 
 -- connected entities are in one group
 regrouped : (v : View) (x y k A B : ℕ) → Lives (layout v) x A → Lives (layout v) y B → Connected (state (layout v)) x y
     → Grouped v x k → Grouped v y k
-regrouped v x y k A B at_x at_y c (_, at_k, chain) =
-    ((B, at_y), at_k, first ((B, at_y), (A, at_x), swapped v x y c) chain)
+regrouped = grind (arith, first)
 
 -- where none strays, connected entities share a compartment
 separate_if : (v : View) → ((e : ℕ) → Strays v e → ⊥) → Separate (layout v)
@@ -62,12 +60,10 @@ grouped_home v x y A B apart at_x at_y (step {y = m} chain ((M, at_m), _, c)) =
     grouped_home v x m A M apart at_x at_m chain ∙ apart m y M B at_m at_y c
 
 no_stray : (v : View) → Separate (layout v) → (e : ℕ) → FirstStray v e → ⊥
-no_stray v apart e ((m, A, B, ((_, _, chain), _), at_e, at_m, differ), _) =
-    differ (grouped_home v e m A B apart at_e at_m chain)
+no_stray = grind (arith, grouped_home)
 
 flow_if : (v : View) → ((A B : ℕ) → Unarrowed v A B → ⊥) → Flow (layout v)
-flow_if v none A B steps =
-    ⊎_elim (λ drawn. drawn) (λ missing. absurd (none A B (steps, missing))) (cases_Bool (v.arrow A B))
+flow_if v none A B steps = grind arith
 
 -- where no pair comes first, there is none
 no_first : (v : View) → ((A B : ℕ) → FirstUnarrowed v A B → ⊥) → (A B : ℕ) → Unarrowed v A B → ⊥
@@ -82,17 +78,14 @@ no_first v none A B there = lowest (λ A. (B : ℕ) × Unarrowed v A B) first_co
         lowest (Unarrowed v m) (λ n here least_n. none m n (here, λ C D u'. order m n C D (least C (D, u')) least_n u')) B u
 
 no_pair : (v : View) → Flow (layout v) → (A B : ℕ) → FirstUnarrowed v A B → ⊥
-no_pair v flow A B ((steps, missing), _) = true≢false (sym (flow A B steps) ∙ missing)
+no_pair = grind arith
 
 one_entity : (v : View) (e other : ℕ) → FirstStray v e → FirstStray v other → e ≡ other
 one_entity v e other (strays, least) (strays', least') =
     let a = least other strays' in let b = least' e strays in omega arith
 
 one_pair : (A B C D : ℕ) → (A < C) ⊎ ((A ≡ C) × (B ≤ D)) → (C < A) ⊎ ((C ≡ A) × (D ≤ B)) → (A ≡ C) × (B ≡ D)
-one_pair A B C D (inl less) (inl more) = absurd (omega arith)
-one_pair A B C D (inl less) (inr (same, _)) = absurd (omega arith)
-one_pair A B C D (inr (same, _)) (inl more) = absurd (omega arith)
-one_pair A B C D (inr (same, le)) (inr (_, ge)) = (same, omega arith)
+one_pair = grind arith
 
 pub tells_truly : TellsTruly
 tells_truly = record {

@@ -1,10 +1,9 @@
 -- Whatever call is made, the history with this event tracks what the table becomes.
-use Rattle.std.proofs.Common.{◌≡◌, ℕ, Bool, true, false, cond, List, [], ◌∷◌, map, None, Ok, Err, sym, refl, ap, ◌∙◌, inl, inr, arith}
+use Rattle.std.proofs.Common.{◌≡◌, ℕ, Bool, true, false, cond, List, [], ◌∷◌, map, None, Ok, Err, sym, refl, ap, ◌∙◌, arith, rules}
 use Rattle.refusal.specs.declared.Refusal.TheVariants.{WrongPhase}
-use Rattle.std.proofs.lemmas.Bool.{true≢false}
 use Rattle.access.specs.Model.States.{Sane}
 use Rattle.access.specs.Model.Layouts.{state}
-use Rattle.access.specs.Model.Operations.{Operation, read, write, create, grant, remove, revoke, delete, Legal}
+use Rattle.access.specs.Model.Operations.{Operation, Legal}
 use Rattle.access.specs.Model.Operated.{home_after, operated}
 use Rattle.access.specs.History.Calls.{Call, fill, load, accept, ask, serve, Answer, Event}
 use Rattle.access.specs.History.Accounts.{Account, blank, wrong_phase, fed, account}
@@ -23,55 +22,36 @@ use Rattle.access.proofs.Rules.Judging.{all_met}
 use Rattle.access.proofs.Rules.Legality.{legal_needs}
 use Rattle.access.proofs.Rules.Following.{serves_model}
 use Rattle.access.proofs.Rules.Sameness.{Same, turned, through, sane_same, good_same, operated_same, legal_same}
-use Rattle.access.proofs.Rules.Matching.{
-  Kept,
-  blank_match,
-  alike_same,
-  alike_match,
-  filled_kept,
-  loaded_kept,
-  filled_phase,
-  loaded_phase,
-}
+use Rattle.access.proofs.Rules.Matching.{Kept, alike_same, filled_kept, loaded_kept, filled_phase, loaded_phase}
 
 -- the account matches the view, and in service the view is good
 abbrev Fine : Account → View → Type 0
 Fine a v = Kept a v × (v.phase ≡ service → Good (layout v))
 
 pub phases_differ : filling ≡ service → ⊥
-phases_differ e = let z : ◌≡◌ {A = ℕ} 0 1 = cc in omega arith
+phases_differ e = grind arith
 
 no_service : (v : View) {P : Type 0} → v.phase ≡ filling → v.phase ≡ service → P
-no_service v p q = absurd (phases_differ (sym p ∙ q))
+no_service v p q = grind arith
 
 alike_kept : (a : Account) (w v : View) → w ≗ v → Kept a v → Kept a w
-alike_kept a w v is (match, sane) =
-    (alike_match a w v is match, sane_same (layout v) (layout w) (turned (alike_same is)) sane)
+alike_kept = grind arith
 
 alike_fine : (a : Account) (w v : View) → w ≗ v → Fine a v → Fine a w
 alike_fine a w v is (kept, good) =
     (alike_kept a w v is kept, λ s. good_same (layout v) (layout w) (turned (alike_same is)) (good (sym is.phase ∙ s)))
 
 fresh_kept : (size limit : ℕ) → Kept blank (fresh size limit)
-fresh_kept size limit = (
-  blank_match size limit,
-  record { holder = λ h t r e. absurd (true≢false (sym e)); target = λ h t r e. absurd (true≢false (sym e)) },
-)
+fresh_kept size limit = grind arith
 
 fresh_fine : (size limit : ℕ) → Fine blank (fresh size limit)
-fresh_fine size limit = (fresh_kept size limit, λ s. absurd (phases_differ s))
+fresh_fine size limit = grind arith
 
 -- what a service call leaves alone, and where it leaves entities
 served_frame : (v : View) (op : Operation) (w : View) → Served v op w
     → (w.compartments ≡ v.compartments) × (w.phase ≡ v.phase) × ((A B : ℕ) → w.arrow A B ≡ v.arrow A B)
     × ((x : ℕ) → w.home x ≡ home_after (layout v) op x)
-served_frame v (read e c) w is = (is.compartments, is.phase, is.arrow, is.home)
-served_frame v (write e c) w is = (is.compartments, is.phase, is.arrow, is.home)
-served_frame v (create e n c1 c2) w is = (is.compartments, is.phase, is.arrow, is.home)
-served_frame v (grant e c1 c2 R c3) w is = (is.compartments, is.phase, is.arrow, is.home)
-served_frame v (remove e c1 c2) w is = (is.compartments, is.phase, is.arrow, is.home)
-served_frame v (revoke e c) w (is, _) = (is.compartments, is.phase, is.arrow, is.home)
-served_frame v (delete e) w is = (is.compartments, is.phase, is.arrow, is.home)
+served_frame = grind arith
 
 served_same : (v : View) (op : Operation) (w : View) → Sane (state (layout v)) → Legal (state (layout v)) op
     → Served v op w
@@ -156,35 +136,20 @@ to_fine past v tracks = (
         good_same (after past) (layout v) (turned same) (tracks.sane, local)
 
 from_fine : (past : List Event) (v : View) → Fine (account past) v → Tracks past v
-from_fine past v ((match, sane), good) = record {
-  names = match.names;
-  home = match.same.home;
-  arrow = match.same.arrow;
-  holds = match.same.holds;
-  sane = sane_same (layout v) (after past) match.same sane;
-  served = λ phase.
-      let sound = from_good (after past) (good_same (layout v) (after past) match.same (good phase)) in
-      (separation (after past) sound.sane sound.separate, sound.flow);
-}
+from_fine = grind (arith, from_good, good_same, separation)
 
 pub begins : (size limit : ℕ) → Tracks [] (fresh size limit)
-begins size limit = from_fine [] (fresh size limit) (fresh_fine size limit)
+begins size limit = grind arith
 
 pub goes_on : (past : List Event) (v : View) (call : Call) (answer : Answer) (w : View) → Tracks past v
     → Does v call answer w
     → Tracks (record { call = call; answer = answer } ∷ past) w
-goes_on past v call answer w tracks does =
-    from_fine (record {
-      call =
-          call;
-      answer = answer;
-    } ∷ past) w (fine_after (account past) v call answer w (to_fine past v tracks) does)
+goes_on past v call answer w tracks does = search (rules, fine_after, from_fine, to_fine)
 
 -- a call that has to come while filling is refused in service
 too_late : (v : View) (rest : List Check) (answer : Answer) → v.phase ≡ service
     → Answered ((v.phase ≡ filling otherwise WrongPhase) ∷ rest) answer → answer ≡ Err WrongPhase
-too_late v rest answer phase (inl (early, _)) = no_service v early phase
-too_late v rest answer phase (inr (_, e)) = e
+too_late = grind arith
 
 pub in_service : (past : List Event) (v : View) (call : Call) (answer : Answer) (w : View) → Tracks past v
     → v.phase ≡ service

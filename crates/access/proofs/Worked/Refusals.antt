@@ -1,5 +1,5 @@
 -- The examples for the refusals.
-use Rattle.std.proofs.Common.{true, [], ◌∷◌, Err, sym, refl, inr, ⊎_elim, arith, lit<, lit≤}
+use Rattle.std.proofs.Common.{[], ◌∷◌, Err, sym, refl, inr, ⊎_elim, arith, lit<, lit≤}
 use Rattle.std.proofs.lemmas.Bool.{true≢false}
 use Rattle.refusal.specs.declared.Refusal.TheVariants as refuse
 use Rattle.sheet.specs.Entries.{arrow}
@@ -13,8 +13,7 @@ use Rattle.access.specs.Rules.Due.{Due}
 use Rattle.access.specs.Rules.Worked.{gauge, solver}
 use Rattle.access.specs.Rules.Examples.{opened, opened_at_five, Examples}
 use Rattle.access.proofs.Rules.Tracked.{phases_differ}
-use Rattle.access.proofs.Worked.Listed.{out_of_reach}
-use Rattle.access.proofs.Worked.Sheet.{◌then◌, some_none, loads, five, homes}
+use Rattle.access.proofs.Worked.Sheet.{◌then◌, some_none, loads}
 use Rattle.access.proofs.Worked.TenCalls.{no_write, no_read, creates}
 
 at_five : Due opened_at_five (serve (create 0 4 (cap 0 8) (cap 1 18)) 128) (Err refuse.Full)
@@ -31,7 +30,7 @@ at_five =
 
 -- holding (1, 18) is not holding (1, 31)
 not_whole : Uses opened 0 (cap 1 31) → ⊥
-not_whole = out_of_reach homes opened.arrow five (λ x. true) 0 (cap 1 31) refl refl refl
+not_whole = grind arith
 
 pub examples : Examples
 examples = record {

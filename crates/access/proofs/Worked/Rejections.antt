@@ -1,5 +1,5 @@
 -- Two sheets that accept refuses, and what it tells.
-use Rattle.std.proofs.Common.{◌≡◌, ℕ, zero, suc, ◌<◌, ◌≤◌, ◌⊎◌, [], ◌∷◌, ◌++◌, Some, Ok, sym, refl, ◌∙◌, subst, inl, inr, arith, lit<, lit≤}
+use Rattle.std.proofs.Common.{◌≡◌, ℕ, zero, suc, ◌≤◌, [], ◌∷◌, ◌++◌, Ok, sym, refl, inl, inr, arith, lit<, lit≤}
 use Rattle.std.proofs.lemmas.Bool.{eqb-false, true≢false}
 use Rattle.refusal.specs.declared.Refusal.TheVariants as refuse
 use Rattle.sheet.specs.Entries.{capability, arrow}
@@ -12,9 +12,8 @@ use Rattle.access.specs.Rules.Sets.{total, members}
 use Rattle.access.specs.Rules.Views.{View, layout}
 use Rattle.access.specs.Rules.Filled.{loaded}
 use Rattle.access.specs.Rules.Due.{Due}
-use Rattle.access.specs.Rules.Telling.{Grouped, Strays, FirstStray, Unarrowed, FirstUnarrowed}
+use Rattle.access.specs.Rules.Telling.{Grouped, Strays, FirstStray, FirstUnarrowed}
 use Rattle.access.specs.Rules.Worked.{gauge, solver, without_arrow, worked, empty, Rejected}
-use Rattle.access.proofs.Facts.{one_some}
 use Rattle.access.proofs.Worked.Sheet.{◌then◌, loads, worked_separate}
 use Rattle.access.proofs.Worked.TenCalls.{alike}
 
@@ -50,10 +49,7 @@ not_separate separate =
 
 -- an entity of compartment 0 that is in a group with 0 does not stray
 at_home : (e : ℕ) → Lives (layout joined) e 0 → Grouped joined e 0 → Strays joined e → ⊥
-at_home e home with_zero (m, A, B, (_, lowest), at_e, at_m, differ) =
-    let least = lowest 0 with_zero in
-    let is_zero : m ≡ 0 = omega arith in
-    differ (one_some (joined.home e) A 0 at_e home ∙ one_some (Some 0) 0 B refl (subst (λ (x : ℕ). Lives (layout joined) x B) is_zero at_m))
+at_home = grind arith
 
 first_stray : FirstStray joined 2
 first_stray = ((0, 1, 0, (two_with_zero, λ _ _. omega arith), refl, refl, λ (e : ◌≡◌ {A = ℕ} 1 0). omega arith), others)
@@ -74,12 +70,7 @@ writes_across : Steps (layout bare) 0 1
 writes_across = (λ (e : ◌≡◌ {A = ℕ} 0 1). omega arith, 1, 2, refl, refl, inl (2, (1, here, refl), refl))
 
 first_unarrowed : FirstUnarrowed bare 0 1
-first_unarrowed = ((writes_across, refl), others)
-  where
-    others : (C D : ℕ) → Unarrowed bare C D → (0 < C) ⊎ ((0 ≡ C) × (1 ≤ D))
-    others (suc C) D _ = inl (omega arith)
-    others zero zero ((differ, _, _, _, _, _), _) = absurd (differ refl)
-    others zero (suc D) _ = inr (refl, omega arith)
+first_unarrowed = grind (arith, writes_across)
 
 pub uncharted : Rejected without_arrow 11 (λ v. FirstUnarrowed v 0 1)
 uncharted = (

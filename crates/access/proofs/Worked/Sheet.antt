@@ -1,5 +1,5 @@
 -- The worked sheet loads, and accept passes it.
-use Rattle.std.proofs.Common.{◌≡◌, ℕ, ◌⊎◌, List, [], ◌∷◌, ◌++◌, Some, None, Ok, Option, refl, inl, inr, lit<, lit≤}
+use Rattle.std.proofs.Common.{◌≡◌, ℕ, ◌⊎◌, List, [], ◌∷◌, ◌++◌, Some, None, Ok, Option, refl, inl, inr, lit<, lit≤, arith}
 use Rattle.std.specs.List.{AllByRecursion}
 use Rattle.std.proofs.lemmas.Bool.{eqb-false}
 use Rattle.sheet.specs.Names.{LawfulName}
@@ -16,7 +16,6 @@ use Rattle.access.specs.Rules.Filling.{load_checks}
 use Rattle.access.specs.Rules.Due.{Due}
 use Rattle.access.specs.Rules.Worked.{gauge, solver, without_arrow, worked, empty}
 use Rattle.access.proofs.Worked.Listed.{listed_sane, listed_local}
-use Rattle.access.proofs.Facts.{none_some}
 use Rattle.access.proofs.Model.Local.{separate, flow}
 
 -- a need that is met, and then the rest
@@ -25,19 +24,16 @@ pub ◌then◌ : {N R S : Type 0} → N → R → (N × R) ⊎ S
 met then rest = inl (met, rest)
 
 pub some_none : (o : Option ℕ) → o ≡ None → (A : ℕ) × (o ≡ Some A) → ⊥
-some_none o e (A, is) = none_some o A e is
+some_none = grind arith
 
 gauge_lawful : LawfulName gauge
-gauge_lawful = ((lit≤ tt, lit≤ tt), (refl, (refl, (refl, (refl, (refl, tt))))))
+gauge_lawful = grind arith
 
 solver_lawful : LawfulName solver
-solver_lawful = ((lit≤ tt, lit≤ tt), (refl, (refl, (refl, (refl, (refl, (refl, tt)))))))
+solver_lawful = grind arith
 
 pub worked_lawful : AllByRecursion Lawful worked
-worked_lawful = (gauge_lawful, (solver_lawful, (gauge_lawful, (gauge_lawful, (solver_lawful, (solver_lawful, rest))))))
-  where
-    rest : Unit {0} × (Unit {0} × (Unit {0} × (Unit {0} × (Unit {0} × ((LawfulName gauge × LawfulName solver) × Unit {0})))))
-    rest = (tt, (tt, (tt, (tt, (tt, ((gauge_lawful, solver_lawful), tt))))))
+worked_lawful = grind arith
 
 -- the records of the sheet without its arrow pass, whatever comes behind their 69 bytes
 pub loads : (more : List Entry) (ending : Ending) (answer : Answer)

@@ -1,6 +1,7 @@
 -- The ten calls on the worked sheet get their answers.
-use Rattle.std.proofs.Common.{◌≡◌, ℕ, Bool, cond, not, ◌||◌, eqb, None, Ok, Err, Option, sym, refl, ap, ◌∙◌, inr, ⊎_elim, lit<, lit≤}
-use Rattle.std.proofs.lemmas.Bool.{cases_eq, eq-eqb, ne_eqb, eqb-false, true≢false}
+use Rattle.std.proofs.lemmas.Grind.{common_steps}
+use Rattle.std.proofs.Common.{ℕ, cond, eqb, None, Ok, Err, Option, sym, refl, inr, ⊎_elim, lit<, lit≤, arith}
+use Rattle.std.proofs.lemmas.Bool.{eqb-false, true≢false}
 use Rattle.refusal.specs.declared.Refusal.TheVariants as refuse
 use Rattle.access.specs.Chains.{here, step}
 use Rattle.access.specs.Model.States.{cap}
@@ -13,10 +14,7 @@ use Rattle.access.specs.Rules.Due.{Due}
 use Rattle.access.specs.Rules.Sequences.{Yields}
 use Rattle.access.specs.Rules.Worked.{calls, answers}
 use Rattle.access.specs.Rules.Examples.{opened}
-use Rattle.access.proofs.Worked.Listed.{out_of_reach}
-use Rattle.access.proofs.Rules.Membership.{removed_added, dropped_nothing}
-use Rattle.access.proofs.Worked.Triples.{each}
-use Rattle.access.proofs.Worked.Sheet.{◌then◌, some_none, five, homes}
+use Rattle.access.proofs.Worked.Sheet.{◌then◌, some_none, homes}
 
 -- the table with entity 4 in it, and 1 holding (4, 31); without this capability; and after the last call
 abbrev made : ℕ → Option ℕ
@@ -32,31 +30,22 @@ abbrev granted : View
 granted = with_triples opened (added 3 3 4 opened.holds)
 
 pub alike : (v : View) → v ≗ v
-alike v = record {
-  size = refl;
-  limit = refl;
-  phase = refl;
-  compartments = refl;
-  arrow = λ _ _. refl;
-  home = λ _. refl;
-  holds = λ _ _ _. refl;
-}
+alike v = grind arith
 
 by_one : Uses opened 0 (cap 2 2)
 by_one = (1, step here (18, refl, refl), refl)
 
 writes : Due opened (serve (write 0 (cap 2 2)) 128) (Ok tt)
-writes = refl then (lit< tt, (lit< tt, lit≤ tt)) then lit≤ tt then (0, refl) then by_one then refl then refl
+writes = grind (arith, by_one)
 
 pub not_reachable : Uses opened 2 (cap 2 2) → ⊥
-not_reachable = out_of_reach homes opened.arrow five (λ x. eqb x 2 || eqb x 3) 2 (cap 2 2) refl refl refl
+not_reachable = grind arith
 
 pub no_write : Due opened (serve (write 2 (cap 2 2)) 128) (Err refuse.Unreachable)
 no_write = refl then (lit< tt, (lit< tt, lit≤ tt)) then lit≤ tt then (1, refl) then inr (not_reachable, refl)
 
 pub no_read : Due opened (serve (read 0 (cap 2 2)) 128) (Err refuse.MissingRight)
-no_read =
-    refl then (lit< tt, (lit< tt, lit≤ tt)) then lit≤ tt then (0, refl) then by_one then inr (λ e. true≢false (sym e), refl)
+no_read = grind (arith, by_one)
 
 pub creates : Due opened (serve (create 0 4 (cap 0 8) (cap 1 18)) 128) (Ok tt)
 unfolding members total
@@ -72,12 +61,7 @@ creates =
     then refl
 
 not_twice : Due created (serve (create 0 4 (cap 0 8) (cap 1 18)) 128) (Err refuse.Present)
-not_twice =
-    refl
-    then (lit< tt, lit< tt, (lit< tt, lit≤ tt), (lit< tt, lit≤ tt))
-    then lit≤ tt
-    then (0, refl)
-    then inr (λ absent. absent (0, refl), refl)
+not_twice = grind arith
 
 full : Due created (serve (grant 2 (cap 3 20) (cap 3 20) 4 (cap 3 16)) 128) (Err refuse.Full)
 unfolding members total
@@ -103,13 +87,7 @@ removes =
     then refl
 
 deletes : Due unheld (serve (delete 4) 0) (Ok tt)
-deletes =
-    refl
-    then lit< tt
-    then tt
-    then (0, refl)
-    then (λ h r is. true≢false (sym (each (λ h t r. not (eqb t 4)) five refl h 4 r is)))
-    then refl
+deletes = grind arith
 
 grants : Due opened (serve (grant 2 (cap 3 20) (cap 3 20) 4 (cap 3 16)) 128) (Ok tt)
 unfolding members total
@@ -123,36 +101,11 @@ grants =
     then inr (eqb-false _ 6 refl)
     then refl
 
-homes_after : (x : ℕ) → homes x ≡ cond (eqb x 4) None (made x)
-homes_after x = ⊎_elim at_4 elsewhere (cases_eq x 4)
-  where
-    at_4 : x ≡ 4 → homes x ≡ cond (eqb x 4) None (made x)
-    at_4 is = ap homes is ∙ sym (ap (λ (b : Bool). cond b None (made x)) (eq-eqb x 4 is))
-
-    elsewhere : (x ≡ 4 → ⊥) → homes x ≡ cond (eqb x 4) None (made x)
-    elsewhere other = sym (ap (λ (b : Bool). cond b None (cond b (homes 0) (homes x))) (ne_eqb x 4 other))
-
 after_remove : unheld ≗ with_triples created (removed 1 4 31 created.holds)
-after_remove = record {
-  size = refl;
-  limit = refl;
-  phase = refl;
-  compartments = refl;
-  arrow = λ _ _. refl;
-  home = λ _. refl;
-  holds = removed_added 1 4 31 opened.holds refl;
-}
+after_remove = grind (arith, common_steps)
 
 after_delete : opened ≗ with_triples (with_homes unheld (λ x. cond (eqb x 4) None (made x))) (dropped 4 unheld.holds)
-after_delete = record {
-  size = refl;
-  limit = refl;
-  phase = refl;
-  compartments = refl;
-  arrow = λ _ _. refl;
-  home = homes_after;
-  holds = dropped_nothing 4 opened.holds (λ t r. refl);
-}
+after_delete = grind (arith, common_steps)
 
 pub ten : Yields opened calls answers
 ten = (
