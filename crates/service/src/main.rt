@@ -9,12 +9,12 @@ use protocol::input::max_input;
 use protocol::line::Line;
 use refusal::answer_number;
 use std::io;
-use std::io::Read;
+use std::io::{Read, Write};
 use verdict::verdict;
 
 fn main(rt: HostRuntime) -> io::Result<()> {
     let mut input = Vec::new(rt.alloc());
     rt.stdin().take(max_input() as u64).read_to_end(&mut input)?;
     let answer = answer_number(verdict(&input));
-    print!(rt; "{}", Line::Sheet { answer })
+    rt.stdout().write_all(Line::sheet(answer).as_bytes())
 }
