@@ -7,7 +7,7 @@ use Rattle.std.specs.Bool.{◌==◌}
 use Rattle.std.specs.Borrow.{Bor}
 use Rattle.std.specs.Fn.{Called}
 use Rattle.std.specs.Iterator.{Drains}
-use Rattle.std.specs.List.{AllByRecursion, AllWithin, FoldsTo, HoldsAt}
+use Rattle.std.specs.List.{All, AllByRecursion, AllWithin, FoldsTo, HoldsAt}
 use Rattle.std.specs.Option.{MatchOption}
 use Rattle.std.proofs.lemmas.Fn.{fold_over}
 use Rattle.std.proofs.lemmas.Iterator.{YieldsList}
@@ -128,16 +128,16 @@ module _ (holder target : ℕ) where
   listed_over [] r = refl
   listed_over (x ∷ xs) r = kept_listed x xs (over x) refl r (listed_over xs r)
 
-  pub such_over : (xs : List Triple) → ((i : ℕ) → i < length xs → (get_or xs i blank).rights < 32) → Such (filter over xs)
+  pub such_over : (xs : List Triple) → All (λ x. x.rights < 32) xs → Such (filter over xs)
   such_over [] small = tt
-  such_over (x ∷ xs) small = kept_such x xs (over x) refl (small 0 (omega arith)) (such_over xs (λ i below. small (suc i) (omega arith)))
+  such_over (x ∷ xs) small = kept_such x xs (over x) refl (small 0 x (omega arith)) (such_over xs (λ i d below. small (suc i) d (omega arith)))
 
   -- a fold over them makes their word
   pub word_folded : {S F : Type 0} {steps : S → Option (Bor Triple) → S → Type 0} {g : Mut F (ℕ × (Bor Triple × Unit {0})) ℕ} {f : F} (s : S)
       (xs : List Triple) (word : ℕ)
       → (ys : List (Bor Triple)) × (f' : F) × Drains steps s ys
       × FoldsTo {P = F × ℕ} (λ p x q. Called g p.0 (p.1, (x, tt)) q.1 q.0) (f, 0) ys (f', word)
-      → YieldsList steps (λ x. x.now) s (filter over xs) → ((i : ℕ) → i < length xs → (get_or xs i blank).rights < 32)
+      → YieldsList steps (λ x. x.now) s (filter over xs) → All (λ x. x.rights < 32) xs
       → ((a : ℕ) (x : Bor Triple) (b : ℕ) (f' : F) → Called g f (a, (x, tt)) b f'
       → (f' ≡ f) × (x.now.rights < 32 → (r : ℕ) → bit b r ≡ (r == x.now.rights || bit a r)))
       → (r : ℕ) → bit word r ≡ listed xs holder target r

@@ -1,5 +1,5 @@
 // How a roll is set up: first a check, then the roll.
-ghost use Rattle.std.specs.Prelude.{◌≡◌, length};
+ghost use Rattle.std.specs.Prelude.{◌≡◌, ◌≤◌, length};
 ghost use Rattle.access.specs.Rules.Sets.{none};
 ghost use Rattle.store.specs.Answers.{RefusedUnless};
 ghost use Rattle.store.specs.Contents.{Same};
@@ -30,11 +30,21 @@ impl<'a> Roll<'a> {
         ensures empty { Same (contents_of result).holds none }
         ensures unwritten { memory_of result ≡ records.old }
     {
-        let (size, limit) = if Roll::check(size, records).is_ok() {
-            (size, records.len())
+        let limit = records.len();
+        if Roll::check(size, records).is_ok() {
+            Roll::unused(size, limit, records)
         } else {
-            (0, 0)
-        };
+            Roll::unused(0, 0, records)
+        }
+    }
+
+    // A roll that uses no record.
+    fn unused(size: u8, limit: usize, records: &'a mut [Triple]) -> Roll<'a>
+        requires { (size ≤ 128) × (limit ≤ 4096) × (limit ≤ length records.old) }
+        ensures measures { Measures result size limit }
+        ensures empty { Same (contents_of result).holds none }
+        ensures unwritten { memory_of result ≡ records.old }
+    {
         Roll {
             size,
             limit,
