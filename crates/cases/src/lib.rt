@@ -1,4 +1,4 @@
-// Examples at the edges of the rules, one module for each crate that they are about.
+// Examples at the edges of the rules: of sheets, of words, of every kind of store.
 #![tactic(auto)]
 
 #[cfg(test)]

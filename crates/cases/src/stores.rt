@@ -3,7 +3,6 @@ use board::Board;
 use refusal::Refusal;
 use roll::Roll;
 use std::alloc::Global;
-use std::fmt::Debug;
 use std::process::Abort;
 use std::test::Fail;
 use store::Store;
@@ -121,7 +120,7 @@ impl<'a, R: Abort, S: Store + Drop> Subject<'a, R, S> {
     fn fill_up(&mut self) {
         let rt = self.rt;
         for rights in 0..32 {
-            self.check(rights as u32);
+            self.check(u32::from(rights));
             assert_eq!(rt; self.ask(Step::Put(0, 0, rights)), Ok(()));
         }
         self.check(32);
@@ -238,25 +237,24 @@ fn full_roll(rt: HostRuntime) {
 
 // Which memory suits a store of which size. Memory that does not is left as it was.
 fn memory_for<
-    T: Copy + PartialEq + Debug + Drop,
+    T: Copy + PartialEq + Drop,
     C: Fn(u8, &[T]) -> Result<(), Outside>,
     F: Fn(u8, &mut [T]),
 >(
     rt: &impl Abort,
     alloc: Global,
     old: T,
-    cases: &[(u8, usize, bool)],
+    cases: &[(u8, usize, Result<(), Outside>)],
     check: C,
     unsuited: F,
 ) -> Result<(), Fail>
     requires check { C.IsAlwaysCallable check }
     requires unsuited { F.IsAlwaysCallable unsuited }
 {
-    for (size, cells, suits) in cases {
+    for (size, cells, expected) in cases {
         let mut memory = vec![in alloc; old; *cells]?;
-        let expected = if *suits { Ok(()) } else { Err(Outside) };
-        assert_eq!(rt; check(*size, memory.as_slice()), expected);
-        if !*suits {
+        assert_eq!(rt; check(*size, memory.as_slice()), *expected);
+        if expected.is_err() {
             unsuited(*size, memory.as_mut_slice());
             assert!(rt; memory.iter().all(|cell| *cell == old));
         }
@@ -266,19 +264,19 @@ fn memory_for<
 
 #[test]
 fn memory_for_boards(rt: HostRuntime) -> Result<(), Fail> {
-    let cases: [(u8, usize, bool); 12] = [
-        (1, 1, true),
-        (2, 4, true),
-        (127, 16129, true),
-        (128, 16384, true),
-        (0, 0, false),
-        (0, 1, false),
-        (129, 16641, false),
-        (255, 65025, false),
-        (1, 0, false),
-        (1, 2, false),
-        (128, 16383, false),
-        (128, 16385, false),
+    let cases: [(u8, usize, Result<(), Outside>); 12] = [
+        (1, 1, Ok(())),
+        (2, 4, Ok(())),
+        (127, 16129, Ok(())),
+        (128, 16384, Ok(())),
+        (0, 0, Err(Outside)),
+        (0, 1, Err(Outside)),
+        (129, 16641, Err(Outside)),
+        (255, 65025, Err(Outside)),
+        (1, 0, Err(Outside)),
+        (1, 2, Err(Outside)),
+        (128, 16383, Err(Outside)),
+        (128, 16385, Err(Outside)),
     ];
     memory_for(
         &rt,
@@ -294,16 +292,16 @@ fn memory_for_boards(rt: HostRuntime) -> Result<(), Fail> {
 
 #[test]
 fn memory_for_rolls(rt: HostRuntime) -> Result<(), Fail> {
-    let cases: [(u8, usize, bool); 9] = [
-        (1, 1, true),
-        (1, 4096, true),
-        (128, 1, true),
-        (128, 4096, true),
-        (0, 1, false),
-        (129, 1, false),
-        (255, 4096, false),
-        (1, 0, false),
-        (128, 4097, false),
+    let cases: [(u8, usize, Result<(), Outside>); 9] = [
+        (1, 1, Ok(())),
+        (1, 4096, Ok(())),
+        (128, 1, Ok(())),
+        (128, 4096, Ok(())),
+        (0, 1, Err(Outside)),
+        (129, 1, Err(Outside)),
+        (255, 4096, Err(Outside)),
+        (1, 0, Err(Outside)),
+        (128, 4097, Err(Outside)),
     ];
     memory_for(
         &rt,
@@ -321,4 +319,5 @@ fn memory_for_rolls(rt: HostRuntime) -> Result<(), Fail> {
 fn numbers_of_faults(rt: HostRuntime) {
     assert_eq!(rt; u8::from(Refusal::from(StoreFault::OutOfRange)), 2);
     assert_eq!(rt; u8::from(Refusal::from(StoreFault::Full)), 8);
+    assert_eq!(rt; u8::from(Refusal::from(Outside)), 2);
 }

@@ -10,14 +10,14 @@ abbrev pub text : Name → List ℕ
 text name = name.bytes.now
 
 -- what a record with this content says
-abbrev pub told : Content → Entry
-told (Compartment name) = compartment (text name)
-told (Entity home number) = entity (text home) number
-told (Capability holder target rights) = capability holder target rights
-told (Arrow from to) = arrow (text from) (text to)
+abbrev pub entry_of : Content → Entry
+entry_of (Compartment name) = compartment (text name)
+entry_of (Entity home number) = entity (text home) number
+entry_of (Capability holder target rights) = capability holder target rights
+entry_of (Arrow from to) = arrow (text from) (text to)
 
 abbrev pub said : Record → Entry
-said found = told found.content
+said found = entry_of found.content
 
 -- a name is the part of the sheet that begins at its place
 abbrev pub PartAt : List ℕ → ℕ → Name → Type 0

@@ -11,7 +11,7 @@ use Rattle.sheet.specs.Names.{LawfulName}
 use Rattle.sheet.specs.Entries.{Lawful, bytes, spelled}
 use Rattle.sheet.specs.Flaws.{NameFlaw, Flawed}
 use Rattle.sheet.specs.Readers.{sheet_of, position, rest}
-use Rattle.sheet.specs.Records.{text, told, said, PartAt, NamesAt, Located}
+use Rattle.sheet.specs.Records.{text, entry_of, said, PartAt, NamesAt, Located}
 
 -- the reader moves past these bytes of the same sheet
 abbrev pub Past : Reader → List ℕ → Reader → Type 0
@@ -35,8 +35,8 @@ NameRead old (Err flaw) new = NameFlaw flaw (rest old)
 -- what stands behind a map is read as the fields that it tells of, and the names among them tell their places
 abbrev pub ContentRead : ℕ → Reader → Result Content Flaw → Reader → Type 0
 ContentRead map old (Ok found) new =
-    Lawful (told found) × (map ∷ rest old ≡ bytes (told found) ++ rest new) × (sheet_of new ≡ sheet_of old)
-    × (position new + 1 ≡ position old + length (bytes (told found)))
+    Lawful (entry_of found) × (map ∷ rest old ≡ bytes (entry_of found) ++ rest new) × (sheet_of new ≡ sheet_of old)
+    × (position new + 1 ≡ position old + length (bytes (entry_of found)))
     × ((at : ℕ) → position old ≡ at + 1 → NamesAt (sheet_of old) at found)
 ContentRead map old (Err flaw) new = Flawed flaw (map ∷ rest old)
 

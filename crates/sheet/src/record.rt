@@ -1,6 +1,7 @@
 // What a sheet is made of.
 
-// A name as it stands in a sheet: its bytes are that part of the sheet, and `place` is the index of the first of them.
+// A name as it stands in a sheet: its bytes are that part of the sheet, and `place` is the index of the first of them. Whether two names are
+// one is asked of their bytes; `==` asks for their places too.
 #[derive(Clone, Copy, PartialEq, Eq, Debug)]
 pub struct Name<'a> {
     pub place: usize,

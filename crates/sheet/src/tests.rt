@@ -91,7 +91,17 @@ fn long_names(rt: HostRuntime) -> Result<(), Fail> {
         place: 0,
         content: Content::Arrow { from, to },
     };
-    assert_eq!(rt; reader.next()?, Some(arrow));
+    let found = reader.next()?;
+    assert_eq!(rt; found, Some(arrow));
+    let Some(
+        Record {
+            content: Content::Arrow { from, to },
+            ..
+        },
+    ) = found
+    else {
+        return Err(Fail::new("no arrow"));
+    };
     assert!(rt; from.bytes != to.bytes);
     Ok(())
 }
