@@ -1,4 +1,4 @@
-// The words of a store: 32 bits, one for each set of rights.
+// The words of a store: 32 bits, one for each set of rights. By the rules a word is a number, which has no methods of ours.
 ghost use Rattle.std.specs.Prelude.{◌≡◌, ℕ, ◌^◌, ◌<◌, ◌≤◌, not, ◌&&◌, ◌||◌, ◌==◌};
 ghost use Rattle.access.specs.Rights.{bit};
 

@@ -29,6 +29,7 @@ impl<'a> Store for Board<'a> {
         self.words[self.place(holder, target)]
     }
 
+    // A spare is a number by the rules, and any free bit will do.
     fn spare(&self) -> u32 {
         if self.is_full() { 0 } else { 1 }
     }

@@ -10,6 +10,7 @@ use store::any::{clear, count};
 use store::fault::{Outside, StoreFault};
 use store::triple::Triple;
 
+// Steps are data, so that one table serves every kind of store.
 #[derive(Clone, Copy)]
 enum Step {
     Put(u8, u8, u8),

@@ -3,6 +3,7 @@ use crate::line::Line;
 use refusal::answer_number;
 use std::test::Fail;
 
+// With the numbers that would be printed.
 #[test]
 fn split_answers(rt: HostRuntime) {
     let cases: [(&[u8], u8); 14] = [

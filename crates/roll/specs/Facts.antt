@@ -49,11 +49,17 @@ listed_ranged size (x ∷ xs) apart h t r held =
     (listed_ranged size xs (apart_rest size x xs apart) h t r)
     (or_cases (at x same h t r) (listed xs h t r) held)
 
+pub listed_fits : (size len limit : ℕ) (xs : List Triple) → len ≤ limit → members size (listed (take len xs)) ≤ limit
+listed_fits size len limit xs within = omega (arith, listed_le size (take len xs), length-take len xs)
+
+pub limit_bounded : (limit : ℕ) → limit ≤ 4096 → limit ≤ 524288
+limit_bounded limit short = omega arith
+
 pub listed_lawful : (size len limit : ℕ) (xs : List Triple) → size ≤ 128 → limit ≤ 4096 → len ≤ limit → Apart size (take len xs)
     → Lawful record { size = size; limit = limit; holds = listed (take len xs) }
 listed_lawful size len limit xs small short within apart = record {
   small = small;
-  bounded = omega arith;
+  bounded = limit_bounded limit short;
   ranged = listed_ranged size (take len xs) apart;
-  fits = omega (arith, listed_le size (take len xs), length-take len xs);
+  fits = listed_fits size len limit xs within;
 }

@@ -6,8 +6,8 @@ ghost use Rattle.roll.specs.Lists.{Apart};
 
 use store::triple::Triple;
 
-// The records are triples in the caller's memory. Those in use are the first `len`, so that a roll goes through its members alone, and
-// knows how many it can still take. A roll of limit 0 uses none, and may lie over any memory.
+// The records are triples in the caller's memory, which no `Vec` can be made of. Those in use are the first `len`, so that a roll goes
+// through its members alone, and knows how many it can still take. A roll of limit 0 uses none, and may lie over any memory.
 #[derive(Drop)]
 pub struct Roll<'a> {
     size: u8,

@@ -1,6 +1,7 @@
 use crate::verdict::verdict;
 use refusal::answer_number;
 
+// With the numbers that would be printed.
 #[test]
 fn verdicts(rt: HostRuntime) {
     let cases: [(&[u8], u8); 9] = [

@@ -28,7 +28,8 @@ pub trait Store {
     fn limit(&self) -> u32
         ensures { result ≡ (contents self.now).limit };
 
-    // A bit for each set of rights, which stands if the holder has a capability over the target with just these rights.
+    // A bit for each set of rights, which stands if the holder has a capability over the target with just these rights. The two come
+    // as they are asked for, as bare numbers.
     fn word(&self, holder: u8, target: u8) -> u32
         ensures bits { (r : ℕ) → bit result r ≡ (contents self.now).holds holder target r }
         ensures outside { (AreEntities (contents self.now).size holder target → ⊥) → result ≡ 0 };
