@@ -26,15 +26,6 @@ impl From<Right> for u8 {
 }
 
 impl Right {
-    // All five, in the order of their values.
-    pub const ALL: [Right; 5] = [
-        Right::Read,
-        Right::Write,
-        Right::Grant,
-        Right::Create,
-        Right::Store,
-    ];
-
     // Is this right in the set?
     pub fn is_in(self, rights: u8) -> bool
         ensures { result ≡ has self rights }
@@ -49,7 +40,7 @@ impl Right {
         word & self.mask() != 0
     }
 
-    // Every set with this right, as a word. It is written out, since what a loop would count is known before.
+    // Every set with this right, as a word: constants, which are plainer than what would compute them.
     fn mask(self) -> u32
         ensures { result ≡ mask self }
     {

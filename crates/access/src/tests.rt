@@ -1,9 +1,17 @@
 use crate::right::{ALL_RIGHTS, Right};
 use crate::word::bit;
 
+const RIGHTS: [Right; 5] = [
+    Right::Read,
+    Right::Write,
+    Right::Grant,
+    Right::Create,
+    Right::Store,
+];
+
 #[test]
 fn rights_in_sets(rt: HostRuntime) {
-    for right in Right::ALL {
+    for right in RIGHTS {
         assert_eq!(rt; right.is_in(0), false);
         assert_eq!(rt; right.is_in(u8::from(right)), true);
         assert_eq!(rt; right.is_in(ALL_RIGHTS), true);

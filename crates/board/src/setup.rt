@@ -1,8 +1,7 @@
-// How a board is set up: first a check, then the board.
+// How a board is set up, in the two steps of the rules: first a check, then the board, over whatever memory.
 ghost use Rattle.std.specs.Prelude.{◌≡◌, length};
-ghost use Rattle.access.specs.Rules.Sets.{none};
 ghost use Rattle.store.specs.Answers.{RefusedUnless};
-ghost use Rattle.store.specs.Contents.{Same};
+ghost use Rattle.store.specs.Contents.{IsEmpty};
 ghost use Rattle.board.specs.Boards.{contents_of, memory_of, Suits};
 
 use crate::Board;
@@ -25,7 +24,7 @@ impl<'a> Board<'a> {
     pub fn new(size: u8, words: &'a mut [u32]) -> Board<'a>
         ensures suits { Suits size (length words.old) → (contents_of result).size ≡ size }
         ensures refused { (Suits size (length words.old) → ⊥) → ((contents_of result).size ≡ 0) × (memory_of result ≡ words.old) }
-        ensures empty { Same (contents_of result).holds none }
+        ensures empty { IsEmpty (contents_of result) }
     {
         if Board::check(size, words).is_err() {
             return Board { size: 0, words };

@@ -3,7 +3,7 @@ use sheet::reader::Reader;
 use sheet::record::{Content, Name, Record};
 use std::test::Fail;
 
-// Two names of 32 bytes that differ in the last one only are two names.
+// Two names of 32 bytes that differ in the last one only are two names. (Those of an arrow are tested where the reader is.)
 #[test]
 fn names_of_compartments(rt: HostRuntime) -> Result<(), Fail> {
     let sheet = b"\x01\x20gaugeset-dp-0123456789.abcdef600\x01\x20gaugeset-dp-0123456789.abcdef601";

@@ -162,6 +162,7 @@ fn over_memory<T: Copy + Drop, F: Fn(u8, &mut [T], u32)>(
     Ok(())
 }
 
+// One test for each kind of store; all but the making is shared.
 #[test]
 fn steps_on_boards(rt: HostRuntime) -> Result<(), Fail> {
     let sizes: [(u8, usize, u32); 4] = [

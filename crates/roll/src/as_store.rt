@@ -18,7 +18,7 @@ impl<'a> Store for Roll<'a> {
     }
 
     fn limit(&self) -> u32 {
-        self.limit as u32
+        self.limit as u32 // at most 4,096; `From` does not know that
     }
 
     fn word(&self, holder: u8, target: u8) -> u32 {
@@ -26,7 +26,7 @@ impl<'a> Store for Roll<'a> {
     }
 
     fn spare(&self) -> u32 {
-        (self.limit - self.len) as u32
+        (self.limit - self.len) as u32 // likewise
     }
 
     fn put(&mut self, triple: Triple) -> Result<(), StoreFault> {

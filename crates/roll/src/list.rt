@@ -6,7 +6,7 @@ ghost use Rattle.roll.specs.Lists.{listed};
 use access::word;
 use store::triple::Triple;
 
-// A bit for each set of rights that the holder has over the target.
+// A bit for each set of rights that the holder has over the target, two numbers as `word` is asked for them.
 pub(super) fn word_of(list: &[Triple], holder: u8, target: u8) -> u32
     requires { All (λ member. member.rights < 32) list.now }
     ensures { (r : ℕ) → bit result r ≡ listed list.now holder target r }

@@ -51,8 +51,8 @@ impl Roll<'_> {
         self.len = last;
     }
 
-    // Frees all records of the holder. The others move up: a slice of the caller's memory has no `retain`, and `push` would ask anew whether
-    // each is new.
+    // Frees all records of the holder. The others move up. (A slice has no `retain`, and `push` does not tell which records it leaves for
+    // the loop to look at.)
     pub(super) fn free_all(&mut self, holder: u8)
         ensures { NowHolds (contents_of self.old) (contents_of self.new) (dropped holder (contents_of self.old).holds) }
     {

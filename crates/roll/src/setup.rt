@@ -1,8 +1,7 @@
-// How a roll is set up: first a check, then the roll.
+// How a roll is set up, in the two steps of the rules: first a check, then the roll, over whatever memory.
 ghost use Rattle.std.specs.Prelude.{◌≡◌, ◌≤◌, length};
-ghost use Rattle.access.specs.Rules.Sets.{none};
 ghost use Rattle.store.specs.Answers.{RefusedUnless};
-ghost use Rattle.store.specs.Contents.{Same};
+ghost use Rattle.store.specs.Contents.{IsEmpty};
 ghost use Rattle.roll.specs.Rolls.{contents_of, memory_of, Measures, Suits};
 
 use crate::Roll;
@@ -27,7 +26,7 @@ impl<'a> Roll<'a> {
     pub fn new(size: u8, records: &'a mut [Triple]) -> Roll<'a>
         ensures suits { Suits size (length records.old) → Measures result size (length records.old) }
         ensures refused { (Suits size (length records.old) → ⊥) → Measures result 0 0 }
-        ensures empty { Same (contents_of result).holds none }
+        ensures empty { IsEmpty (contents_of result) }
         ensures unwritten { memory_of result ≡ records.old }
     {
         let limit = records.len();
@@ -42,7 +41,7 @@ impl<'a> Roll<'a> {
     fn unused(size: u8, limit: usize, records: &'a mut [Triple]) -> Roll<'a>
         requires { (size ≤ 128) × (limit ≤ 4096) × (limit ≤ length records.old) }
         ensures measures { Measures result size limit }
-        ensures empty { Same (contents_of result).holds none }
+        ensures empty { IsEmpty (contents_of result) }
         ensures unwritten { memory_of result ≡ records.old }
     {
         Roll {

@@ -16,7 +16,7 @@ pub fn count_records(sheet: &[u8]) -> Result<usize, Fault>
 {
     let mut reader = Reader::new(sheet);
     let mut records: usize = 0;
-    // no iterator, which would have no end: after a fault a reader answers the same again
+    // no iterator: after a fault a reader answers the same again, without end, and one that stopped there would need a flag for it
     while let Some(_record) = reader.next()? {
         records += 1;
     }

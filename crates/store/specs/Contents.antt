@@ -1,6 +1,6 @@
 -- What a store is: its size, its limit and the set of its members.
 use Rattle.std.specs.Prelude.{◌≡◌, ℕ, ◌<◌, ◌≤◌, true}
-use Rattle.access.specs.Rules.Sets.{Triples, members, HasRoom}
+use Rattle.access.specs.Rules.Sets.{Triples, none, members, HasRoom}
 use Rattle.store.specs.Ranges.{InRange}
 
 pub record Contents : Type 0 where
@@ -33,6 +33,10 @@ RoomFor c = HasRoom c.size c.limit c.holds
 -- the two sets have the same members
 abbrev pub Same : Triples → Triples → Type 0
 Same a b = (h t r : ℕ) → a h t r ≡ b h t r
+
+-- there are no members
+abbrev pub IsEmpty : Contents → Type 0
+IsEmpty c = Same c.holds none
 
 -- size and limit are as before, and the members are those of this set
 pub record NowHolds (before after : Contents) (set : Triples) : Type 0 where

@@ -1,4 +1,4 @@
--- The refusal that each fault of a store is; its number is that of the refusal. `Outside` is the refusal that `OutOfRange` is.
+-- The refusal that each fault of a store is; its number is that of the refusal.
 use Rattle.refusal.specs.declared.Refusal.{Refusal}
 use Rattle.refusal.specs.declared.Refusal.TheVariants as refuse
 use Rattle.store.specs.declared.fault.StoreFault.{StoreFault}

@@ -1,6 +1,5 @@
 // Why a store refuses.
 ghost use Rattle.std.specs.Prelude.{◌≡◌};
-ghost use Rattle.refusal.specs.declared.Refusal.TheVariants as refuse;
 ghost use Rattle.store.specs.declared.fault.StoreFault.TheVariants as faults;
 ghost use Rattle.store.specs.Refusals.{refusal};
 
@@ -29,7 +28,7 @@ impl From<Outside> for StoreFault {
 }
 
 impl From<Outside> for Refusal {
-    ghost from_gives = { λ _ r. r ≡ refuse.OutOfRange };
+    ghost from_gives = { λ _ r. r ≡ refusal faults.OutOfRange };
 
     fn from(_fault: Outside) -> Refusal {
         Refusal::OutOfRange

@@ -4,7 +4,7 @@ ghost use Rattle.store.specs.Ranges.{LawfulSize};
 
 const MAX_SIZE: u8 = 128;
 
-// Can a store be set up with this size?
+// Can a store be set up with this size? (The program judges the size of its input by itself, and knows no stores.)
 pub fn is_lawful_size(size: u8) -> bool
     ensures { IsTrue result ↔ LawfulSize size }
 {

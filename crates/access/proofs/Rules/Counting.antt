@@ -24,11 +24,6 @@ unfolding total
 total_le f m zero each = omega (arith, zero-mul m)
 total_le f m (suc n) each = omega (arith, total_le f m n each, each n, suc-mul n m)
 
--- a sum with one term more
-pub total_more : (f : ℕ → ℕ) (n : ℕ) → total f (n + 1) ≡ total f n + f n
-unfolding total
-total_more f n = grind arith
-
 -- a sum's first term
 total_first : (f : ℕ → ℕ) (n : ℕ) → total f (suc n) ≡ f 0 + total (λ k. f (suc k)) n
 unfolding total
