@@ -3,6 +3,7 @@
 
 #[cfg(test)]
 mod sheets;
+pub mod step;
 #[cfg(test)]
 mod stores;
 #[cfg(test)]

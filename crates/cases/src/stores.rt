@@ -1,4 +1,5 @@
 // One table of cases for every kind of store.
+use crate::step::Step;
 use board::Board;
 use refusal::Refusal;
 use roll::Roll;
@@ -9,14 +10,6 @@ use store::Store;
 use store::any::{clear, count};
 use store::fault::{Outside, StoreFault};
 use store::triple::Triple;
-
-// Steps are data, so that one table serves every kind of store.
-#[derive(Clone, Copy)]
-enum Step {
-    Put(u8, u8, u8),
-    Take(u8, u8, u8),
-    Drop(u8),
-}
 
 const OUT: Result<(), StoreFault> = Err(StoreFault::OutOfRange);
 
@@ -75,12 +68,7 @@ impl<'a, R: Abort, S: Store + Drop> Subject<'a, R, S> {
     }
 
     fn ask(&mut self, step: Step) -> Result<(), StoreFault> {
-        match step {
-            Step::Put(holder, target, rights) => self.store.put(triple(holder, target, rights))?,
-            Step::Take(holder, target, rights) => self.store.take(triple(holder, target, rights))?,
-            Step::Drop(holder) => self.store.drop_holder(holder)?,
-        }
-        Ok(())
+        step.ask(&mut self.store)
     }
 
     // Spare and count agree, and size and limit are what they were.
