@@ -1,6 +1,6 @@
 -- The sums that a count makes.
 use denote.Param.Members.{Mut}
-use Rattle.std.proofs.Common.{◌≡◌, ℕ, zero, suc, ◌+◌, ◌<◌, ◌≤◌, Bool, true, false, cond, List, map, sum, sym, ap, ◌∙◌, subst, refl, add-one, arith, lit≤}
+use Rattle.std.proofs.Common.{◌≡◌, ℕ, zero, suc, ◌+◌, ◌<◌, ◌≤◌, Bool, true, false, cond, List, map, sum, sym, ap, ◌∙◌, subst, refl, ⊎_elim, add-one, arith, lit≤}
 use Rattle.std.specs.Bool.{⊤}
 use Rattle.std.specs.Fn.{Called}
 use Rattle.std.specs.Iterator.{Drains}
@@ -9,6 +9,7 @@ use Rattle.std.specs.Iterator.Runs.{EachRunFrom}
 use Rattle.std.specs.List.{fold, range_with_len}
 use Rattle.std.specs.declared.iter.Map.{Map}
 use Rattle.std.specs.declared.ops.Range.{Range}
+use Rattle.std.proofs.lemmas.Bool.{cases_eq}
 use Rattle.std.proofs.iter.Yields.{nat_range_steps}
 use Rattle.std.proofs.lemmas.Iterator.{maps, YieldsList, YieldsList-from_map, YieldsList-from_range}
 use Rattle.std.proofs.lemmas.Iterator.Consumers.{fits_from_yields_list, sum_from_yields_List}
@@ -23,6 +24,15 @@ sum_total f (suc n) =
     ap (λ (k : ℕ). sum (map f (range_with_len 0 k))) (sym (add-one n))
     ∙ sum_by-map-range_with_len_more (λ x. x) f 0 n n (omega arith)
     ∙ ap (λ (k : ℕ). k + f n) (sum_total f n)
+
+-- a sum over fewer numbers is no larger
+pub total_below : (f : ℕ → ℕ) (m n : ℕ) → m ≤ n → total f m ≤ total f n
+unfolding total
+total_below f m zero le =
+    let none : m ≡ 0 = omega arith in
+    omega (arith, ap (total f) none)
+total_below f m (suc n) le =
+    ⊎_elim (λ e. omega (arith, ap (total f) e)) (λ other. omega (arith, total_below f m n (omega arith))) (cases_eq m (suc n))
 
 -- the iterator gives what f gives of each number below n
 module _ {F : Type 0} {g : Mut F (ℕ × Unit {0}) ℕ} {s : Map (Range ℕ) F} {p : F} (f : ℕ → ℕ) (n : ℕ)
