@@ -1,8 +1,8 @@
 -- What the words of a board mark, and how a write changes that.
 use borrow.Rule.Slice.PartMut.{put_mid}
-use Rattle.std.proofs.Common.{◌≡◌, ℕ, ◌+◌, ◌*◌, ◌^◌, ◌<◌, ◌≤◌, Bool, true, false, not, ◌&&◌, ◌||◌, eqb, List, length, get_or, set, replicate, Ok, Err, Result, sym, refl, ap, ◌∙◌, ⊎_elim, suc-mul, arith, rules}
+use Rattle.std.proofs.Common.{◌≡◌, ℕ, ◌+◌, ◌*◌, ◌^◌, ◌<◌, ◌≤◌, Bool, true, false, not, ◌&&◌, ◌||◌, eqb, List, length, get_or, set, Ok, Err, Result, sym, refl, ap, ◌∙◌, ⊎_elim, suc-mul, arith, rules}
 use Rattle.std.proofs.lemmas.Nat.{mul-add-lt, mul-le, same_from_place}
-use Rattle.std.proofs.lemmas.List.{get_or-set_same, get_or-set_other, length-replicate, places}
+use Rattle.std.proofs.lemmas.List.{get_or-set_same, get_or-set_other, places}
 use Rattle.std.proofs.lemmas.Bool.{and_left, and_right, cases_eq, cases_lt, eq-eqb}
 use Rattle.std.proofs.lemmas.Bool.Decides.{nat_tests}
 use Rattle.access.specs.Rights.{bit}
@@ -136,25 +136,19 @@ module _ (size : ℕ) (words : List ℕ) (whole : size * size ≤ length words) 
           ∙ sym (ap (λ (x : Bool). marked size words a b r && not x) (same_beside a b rights r))
 
 -- the words of one holder are cleared
-module _ (size : ℕ) (words : List ℕ) (whole : size * size ≤ length words) (a row span n : ℕ) (zeros : List ℕ) (la : a < size)
-    (begins : row ≡ a * size) (spans : span ≡ size) (blank : zeros ≡ replicate n 0) (long : n ≡ size) where
+module _ (size : ℕ) (words : List ℕ) (whole : size * size ≤ length words) (a row span : ℕ) (zeros : List ℕ) (la : a < size)
+    (begins : row ≡ a * size) (spans : span ≡ size) (blank : (k : ℕ) → get_or zeros k 0 ≡ 0) (long : length zeros ≡ span) where
   abbrev cleared : List ℕ
   cleared = put_mid row span words zeros
 
   within : row + span ≤ length words
   within = omega (arith, mul-le (a + 1) size size size (omega arith) (omega arith), suc-mul a size)
 
-  all_zeros : length zeros ≡ span
-  all_zeros = ap length blank ∙ length-replicate n 0 ∙ long ∙ sym spans
-
-  zero_at : (k : ℕ) → get_or zeros k 0 ≡ 0
-  zero_at k = ap (λ (zs : List ℕ). get_or zs k 0) blank ∙ search (rules, places)
-
   row_in : (t : ℕ) → t < size → get_or cleared (a * size + t) 0 ≡ 0
-  row_in t lt = let z = all_zeros in search (rules, places, zero_at)
+  row_in t lt = let z = long in search (rules, places, blank)
 
   row_out : (h t : ℕ) → t < size → (h ≡ a → ⊥) → get_or cleared (h * size + t) 0 ≡ get_or words (h * size + t) 0
-  row_out h t lt other = let z = all_zeros in ⊎_elim before behind (cases_lt h a)
+  row_out h t lt other = let z = long in ⊎_elim before behind (cases_lt h a)
     where
       before : h < a → get_or cleared (h * size + t) 0 ≡ get_or words (h * size + t) 0
       before less =

@@ -3,6 +3,7 @@ ghost use Rattle.board.specs.Boards.{contents_of};
 ghost use Rattle.board.specs.Facts.{marked_lawful};
 
 use crate::Board;
+use crate::words::clear_words;
 use access::word;
 use store::Store;
 use store::fault::{Outside, StoreFault};
@@ -23,7 +24,7 @@ impl<'a> Store for Board<'a> {
     }
 
     fn word(&self, holder: u8, target: u8) -> u32 {
-        if holder >= self.size || target >= self.size {
+        if !self.has_word(holder, target) {
             return 0;
         }
         self.words[self.place(holder, target)]
@@ -45,8 +46,8 @@ impl<'a> Store for Board<'a> {
 
     fn drop_holder(&mut self, holder: u8) -> Result<(), Outside> {
         check_entity(holder, self.size)?;
-        let row = self.place(holder, 0);
-        self.words[row..row + usize::from(self.size)].fill(0);
+        let row = self.row(holder);
+        clear_words(&mut self.words[row]);
         Ok(())
     }
 }

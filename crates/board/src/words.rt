@@ -1,13 +1,24 @@
-// Where the words of a board lie, how one is changed, and whether all are full.
-ghost use Rattle.std.specs.Prelude.{◌≡◌, ℕ, ◌*◌, ◌<◌, MatchBool, IfOk, IfErr};
+// Where the words of a board lie, how they are changed, and whether all are full.
+ghost use Rattle.std.specs.Prelude.{◌≡◌, ℕ, ◌+◌, ◌*◌, ◌<◌, ◌↔◌, IsTrue, MatchBool, IfOk, IfErr, length, slice_index};
 ghost use Rattle.board.specs.Boards.{contents_of, memory_of, place_of, word_of, AllBits, MissingBit, Rewritten};
 ghost use Rattle.store.specs.Answers.{RefusedUnless};
 ghost use Rattle.store.specs.Contents.{IsFull, HasSpare};
 ghost use Rattle.store.specs.Ranges.{at, AreEntities, InRange};
 
 use crate::Board;
+use std::ops::Range;
 use store::fault::Outside;
 use store::triple::Triple;
+
+// Makes each of these words 0. On the row of a small board the library's `fill` takes several times as long.
+pub(super) fn clear_words(words: &mut [u32])
+    ensures zeros { (k : ℕ) → slice_index words.new k ≡ 0 }
+    ensures len { length words.new ≡ length words.old }
+{
+    for word in words.iter_mut() {
+        *word = 0;
+    }
+}
 
 // How many words a board of this size has.
 pub(super) fn count_of(size: u8) -> usize
@@ -24,6 +35,23 @@ impl Board<'_> {
         ensures within { result < self.now.size * self.now.size }
     {
         usize::from(holder) * usize::from(self.size) + usize::from(target)
+    }
+
+    // Is there a word for this holder and target? (Asked here and not in `word`, so that a wrong test is refused here.)
+    pub(super) fn has_word(&self, holder: u8, target: u8) -> bool
+        ensures { IsTrue result ↔ AreEntities self.now.size holder target }
+    {
+        holder < self.size && target < self.size
+    }
+
+    // Where the words of this holder lie.
+    pub(super) fn row(&self, holder: u8) -> Range<usize>
+        requires { holder < self.now.size }
+        ensures start { result.start ≡ place_of self.now.size holder 0 }
+        ensures end { result.end ≡ result.start + self.now.size }
+    {
+        let start = self.place(holder, 0);
+        start..start + usize::from(self.size)
     }
 
     // Changes the word that has the triple's bit.
