@@ -1,10 +1,14 @@
 -- Sets of rights, as sums and as bits.
-use Rattle.std.proofs.Common.{◌≡◌, ℕ, zero, suc, ◌+◌, ◌≤◌, Bool, true, cond, ◌&&◌, eqb, ◌↔◌, sym, ap, ◌∙◌, subst, arith}
-use lib.Bits.{and_le_l}
+use Rattle.std.proofs.Common.{◌≡◌, ℕ, zero, suc, ◌+◌, ◌≤◌, Bool, true, cond, not, ◌&&◌, eqb, ◌↔◌, sym, ap, ◌∙◌, subst, arith}
+use lib.Bits.{bit_and, and_le_l}
 use Rattle.access.specs.declared.right.Right.{Right}
 use Rattle.access.specs.declared.right.Right.TheVariants.{Read, Write, Grant, Create, Store}
-use Rattle.access.specs.Rights.{all_rights, has, value, In, Within, common, share}
-use Rattle.access.proofs.Bits.{bit-bit_and}
+use Rattle.access.specs.Rights.{all_rights, has, position, value, In, Within, common, share}
+use Rattle.access.proofs.Bits.{bit-bit_and, bit_in_common}
+
+-- a right is in a set exactly if the set has something in common with its value
+pub has_by_value : (right : Right) (rights : ℕ) → has right rights ≡ not (eqb (bit_and rights (value right)) 0)
+has_by_value right rights = sym (bit_in_common rights (position right))
 
 pub common_both : (a b : ℕ) (right : Right) → In right (common a b) ↔ (In right a × In right b)
 common_both a b right = grind (arith, bit-bit_and)

@@ -1,11 +1,15 @@
--- The bits of a word after one of them was set or cleared.
-use Rattle.std.proofs.Common.{◌≡◌, ℕ, ◌-◌, ◌^◌, ◌<◌, false, not, ◌&&◌, ◌||◌, eqb, w32, arith, lit<}
+-- The bits of a word: none past its width, and which stand after one was set or cleared.
+use Rattle.std.proofs.Common.{◌≡◌, ℕ, ◌-◌, ◌^◌, ◌<◌, ◌≤◌, false, not, ◌&&◌, ◌||◌, eqb, w32, arith, lit<}
 use lib.Bits.{bit_and, bit_or}
 use Rattle.std.proofs.lemmas.Bool.Decides.{nat_tests}
 use Rattle.std.proofs.lemmas.Nat.{one_shl}
 use Rattle.std.proofs.lemmas.Nat.Bits.{bit_at-lt, bit_at-zero, bit_at_above, bit_at_and, bit_at_clear_other, bit_at_clear_same, same_from_bits_below}
 use Rattle.access.specs.Rights.{bit}
-use Rattle.access.proofs.Bits.{bit-bit_or, bit_power}
+use Rattle.access.proofs.Bits.{bit-bit_or, bit_past, bit_power}
+
+-- a word has no bits past its width
+pub bit_past_31 : (word k : ℕ) → word < 2 ^ 32 → 32 ≤ k → bit word k ≡ false
+bit_past_31 word k small past = bit_past 32 word k small past
 
 pub bit_set : (word k r : ℕ) → bit (bit_or word (2 ^ k)) r ≡ (eqb r k || bit word r)
 bit_set word k r = rw (bit-bit_or, bit_power) (grind arith)

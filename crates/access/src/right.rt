@@ -27,6 +27,7 @@ impl From<Right> for u8 {
 
 impl Right {
     // Is this right in the set?
+    #[tactic(auto, using(crate::proofs::RightsSets::has_by_value))]
     pub fn is_in(self, rights: u8) -> bool
         ensures { result ≡ has self rights }
     {

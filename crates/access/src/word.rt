@@ -3,10 +3,11 @@ ghost use Rattle.std.specs.Prelude.{◌≡◌, ℕ, ◌^◌, ◌<◌, ◌≤◌,
 ghost use Rattle.access.specs.Rights.{bit};
 
 // Does the bit of this set stand? A word has none past bit 31.
+#[tactic(auto, using(crate::proofs::WordBits::bit_past_31))]
 pub fn bit(word: u32, rights: u8) -> bool
     ensures { result ≡ bit word rights }
 {
-    word & only(rights) != 0
+    rights < 32 && (word >> rights) % 2 == 1
 }
 
 // The word with the bit of this set, if there is one.
